@@ -7,7 +7,7 @@ The second form prints the one diagnostic of a script's text up to the grammar, 
 makes texts at random from the productions, spoils many of them, and compares each with `PATH SCRIPTFILE`: where
 one of the codes below is due it must be the first diagnostic on standard error, with its place; else none of
 them may stand there. Without --program each text is read by two readers, a plain descent and a table of the
-productions read by Earley's way, which must agree. With --out the texts go to FILE, a JSON object a line: `hex`, the
+productions read by Earley's way, which must agree. As many texts in quotes, about templates, are divided in two ways. With --out the texts go to FILE, a JSON object a line: `hex`, the
 text's bytes, and `want`, as above; where that is `ok` also `patterns`, the regex sources in order, `roots`, the roots
 that are assigned or that a `del` names, by bytes, and `tree`, a list of items. A tree's node is `[FORM, START, END ..]`
 with its span in bytes, and then
@@ -21,15 +21,16 @@ with its span in bytes, and then
 where VALUE is nanoseconds since 1970 for a timestamp and a regex's number for a regex, ROOT is `.`, `%` or a name, STEPS holds
 texts and whole numbers, and TARGET is `[START, END, ROOT-OR-NULL, STEPS]`.
 
-Codes: 203 unrecognized token, 1001 float, 1002 number out of range, 1003 operator left out, 1007 negative index
-written or deleted, 1008 nested too deeply, 1009 too long or not UTF-8, 1012 index too large or path too long,
-1014 malformed timestamp, 1016 template or too many regexes.
+Codes: 203 unrecognized token, 1001 float, 1002 number out of range, 1003 operator left out, 1008 nested too deeply,
+1009 too long or not UTF-8, 1012 index too large or path too long, 1014 malformed timestamp, 1016 malformed template or too
+many regexes.
 """
 
 import argparse
 import contextlib
 import json
 import random
+import re
 import sys
 
 sys.dont_write_bytecode = True
@@ -39,10 +40,11 @@ from reading.diagnostics import DIAGNOSTIC
 from reading.earley import agree
 from reading.grammar import Script, read
 from reading.moments import read_moment
+from reading.tokens import KEYWORDS, Fault, text_token
 from reading.tree import written_roots
-from some_texts import Maker, hard_texts
+from some_texts import Maker, hard_texts, some_text
 
-CODES = (203, 1001, 1002, 1003, 1007, 1008, 1009, 1012, 1014, 1016)
+CODES = (203, 1001, 1002, 1003, 1008, 1009, 1012, 1014, 1016)
 
 
 def tree_of(node, at):
@@ -84,9 +86,9 @@ def case_line(data, got):
 
 NL = "\n"
 ROWS = [
-    (".x =", (203, 1, 5)), ('.x = "a', (203, 1, 6)), ('.x = "{{ a }}"', (1016, 1, 6)), (".x = 1.5", (1001, 1, 6)),
+    (".x =", (203, 1, 5)), ('.x = "a', (203, 1, 6)), (".x = 1.5", (1001, 1, 6)),
     (".x = 1 / 2", (1003, 1, 8)),
-    (".x = t'now'", (1014, 1, 6)), (".a[65536] = 1", (1012, 1, 1)), (".a[-1] = 1", (1007, 1, 1)), (".a[65535] = 1", "ok"),
+    (".x = t'now'", (1014, 1, 6)), (".a[65536] = 1", (1012, 1, 1)), (".a[-1] = 1", "ok"), (".a[65535] = 1", "ok"),
     (".n = 9223372036854775808", (1002, 1, 6)), (".n = -9223372036854775808", "ok"), ("(" * 65, (1008, 1, 1)),
     (" " * 65537, (1009, 1, 1)),
     ("(" * 64 + "1" + ")" * 64, "ok"), (".x = 1 2", (203, 1, 8)), (".x = (1", (203, 1, 8)), ("if true 1", (203, 1, 9)),
@@ -96,11 +98,11 @@ ROWS = [
     ("f(a) -> |v| {" * 4 + "}" * 4, "ok"), ("f(a) -> |v| {" * 5 + "}" * 5, (1008, 1, 1)), ("(x" + NL + "-5)", (203, 2, 1)),
     ("x = 1.5x", (1001, 1, 5)), ("1e5x", (1001, 1, 1)), ("1_", (203, 1, 1)), ("1__0", (203, 1, 1)), ("12x", (203, 1, 1)),
     ("99999999999999999999x", (203, 1, 1)), ("x = s'a", (203, 1, 5)), ('.a."\\q" = 1', (203, 1, 1)), ('.a."q = 1', (203, 1, 4)),
-    ("x[-0] = 1", "ok"), ("x[-1][65536] = 1", (1007, 1, 1)), ("del(a, v: .x[-1])", (1007, 1, 11)), ("_.a = 1", "ok"), ("", "ok"),
+    ("x[-0] = 1", "ok"), ("x[-1][65536] = 1", (1012, 1, 1)), ("del(a, v: .x[-1])", "ok"), ("_.a = 1", "ok"), ("", "ok"),
     ("1 < 2 < 3", "ok"), ("a, b = 1", "ok"), ("abort 1", "ok"), ("abort" + NL + ".x = q", "ok"), ("5 % 2", (203, 1, 3)),
     ("%", "ok"), ("%a.b[0] = %", "ok"), ("%[0] = 1", "ok"), ('%"a b"@ = 1', (203, 1, 7)), ('%"a b".c = 1', "ok"), ("%@a, % = 1", "ok"), ("5%2", (203, 1, 2)), ("x = 1 -% ", "ok"), ("% - 1", "ok"),
     ("%-1", "ok"), ("%.a", (203, 1, 2)), ("% a", (203, 1, 3)), ("%%", (203, 1, 2)), ("f()%a", (203, 1, 4)), ("[1]%", (203, 1, 4)), ("f() %a", (203, 1, 5)), ("x%", (203, 1, 2)),
-    ('%"q = 1', (203, 1, 2)), ('%"\\q" = 1', (203, 1, 1)), ("%[9223372036854775808]", (1002, 1, 1)), ("%[-1] = 1", (1007, 1, 1)), ("del(%[65536])", (1012, 1, 5)), ("%" + ".a" * 3, (203, 1, 2)),
+    ('%"q = 1', (203, 1, 2)), ('%"\\q" = 1', (203, 1, 1)), ("%[9223372036854775808]", (1002, 1, 1)), ("%[-1] = 1", "ok"), ("del(%[65536])", (1012, 1, 5)), ("%" + ".a" * 3, (203, 1, 2)),
     ("if % == %a {}", "ok"), ("if %{}", "ok"), ("%|=%a", "ok"), ("del( % )", "ok"), ("f(%:1)", (203, 1, 4)), ("x %= 2", (203, 1, 3)), ("x /= 2", (1003, 1, 3)), ("f() -> |%| {}", (203, 1, 9)),
     ("%if = 1", "ok"), ("%true.null = 1", "ok"), ("_, % = 1", "ok"), ("% = _", "ok"), ("%_ = 1", "ok"), ("%1 = 1", "ok"), ("% 1 = 1", (203, 1, 3)), ("!%a", "ok"), ("x[%]", (203, 1, 2)),
     ("x = {\"a\":1}" + NL + "del(x.a)" + NL + ".r = x.a", "ok"), ("x={\"a\":!true,}", "ok"), ("for_each( . )->|k,v|{}", "ok"),
@@ -108,6 +110,34 @@ ROWS = [
     ("parsed, err = parse_json(.message)" + NL + ". = . | (object(parsed) ?? {})" + NL + "del(.message)", "ok"),
     (".a=1; .b = [ 1,2 ] # two" + NL + "if .a==1{abort}", "ok"), ("if exists(.k) { .v = 1 } else { .v = \"s\" }", "ok"),
     ("é = 1", (203, 1, 1)), ("\"é\" = 1", (203, 1, 5)),
+    # Places from the end that are written or deleted.
+    (".a[-65536] = 1", "ok"), (".a[-65537] = 1", (1012, 1, 1)), ("del(.a[-65536])", "ok"), ("del(.a[-65537])", (1012, 1, 5)), (".x = .a[-65537]", "ok"), ("exists(.a[-65537])", "ok"),
+    ("a, .b[-65537] = 1", (1012, 1, 4)), (".a[-9223372036854775808] |= {}", (1012, 1, 1)), (".a[-9223372036854775809] = 1", (1002, 1, 1)), ("del(v: x[0][-65537].a)", (1012, 1, 8)),
+    ("x[-1]" + "[-2]" * 127 + " = 1", "ok"), ("x[-1]" + "[-2]" * 128 + " = 1", (1012, 1, 1)), ("del(del(.a[-65537]))", (1012, 1, 9)),
+    # Templates.
+    ('.x = "{{ a }}"', "ok"), ('.x = "{{ 1 }}"', (1016, 1, 6)), ('.x = "a\\n\\"b{{ 1 }}"', (1016, 1, 6)), ('.x = "' + "{{ a }}" * 31 + '"', "ok"), ('.x = "' + "{{ a }}" * 32 + '"', (1008, 1, 1)),
+    ('"' + "{{a}}" * 31 + '"', "ok"), ('"' + "{{a}}" * 32 + '"', (1008, 1, 1)), ('("' + "{{a}}" * 31 + '")', "ok"), ('(("' + "{{a}}" * 31 + '"))', (1008, 1, 1)),
+    ('x = "' + "{{a}}" * 31 + '" + ""', (1008, 1, 1)), ('x = "' + "{{a}}" * 30 + '" + ""', "ok"), ('x = "' + "{{a}}" * 31 + '"; y = 1 + 1', "ok"),
+    ("(" * 64 + '"a"' + ")" * 64, "ok"), ("(" * 62 + '"{{a}}"' + ")" * 62, (1008, 1, 1)), ("(" * 61 + '"{{a}}"' + ")" * 61, "ok"), ('"' + "{{a}}" * 31 + '"\n"' + "{{a}}" * 31 + '"', "ok"),
+    ('"{{ if }}"', (1016, 1, 1)), ('"{{ null }}"', (1016, 1, 1)), ('"{{ nulls }}"', "ok"), ('"{{}}"', (1016, 1, 1)), ('"{{ a.b }}"', (1016, 1, 1)), ('"{{ .a }}"', (1016, 1, 1)), ('"{{ % }}"', (1016, 1, 1)),
+    ('"{{ a[0] }}"', (1016, 1, 1)), ('"{{ a b }}"', (1016, 1, 1)), ('"{{ a"', (1016, 1, 1)), ('"{{ a }"', (1016, 1, 1)), ('"{{ a } }"', (1016, 1, 1)), ('"{{"', (1016, 1, 1)), ('"{{' + NL + 'a }}"', (1016, 1, 1)),
+    ('"{{ a' + NL + '}}"', (1016, 1, 1)), ('"{{\t\r a \t\r}}"', "ok"), ('"{{ é }}"', (1016, 1, 1)), ('"{{ \u00a0a }}"', (1016, 1, 1)), ('"{{ _ }}{{ _1 }}{{ A9_ }}"', "ok"), ('"{{ 9a }}"', (1016, 1, 1)),
+    ('"{{{ a }}"', (1016, 1, 1)), ('"{{ a }}}"', "ok"), ('"{{ a }} }} {"', "ok"), ('"{{ a }}{{"', (1016, 1, 1)), ('"{ { a }}"', "ok"), ('"\\{{ a }}"', "ok"), ('"\\{{ 1 }}"', "ok"), ('"{\\{ 1 }}"', "ok"),
+    ('"\\{{{ a }}"', "ok"), ('"\\{{{ 1 }}"', (1016, 1, 1)), ('"\\\\{{ a }}"', "ok"), ('"\\\\{{ 1 }}"', (1016, 1, 1)), ('"\\}}"', (203, 1, 1)), ('"{{ a \\}}"', (203, 1, 1)), ('"{{ \\q }}"', (203, 1, 1)),
+    ('"{{ 1 }}\\q"', (203, 1, 1)), ('"{{ \\n }}"', (1016, 1, 1)), ('"{{ \\" }}"', (1016, 1, 1)), ('x = "{{ 1', (203, 1, 5)), ('x = "{{ 1 }}\\', (203, 1, 5)), ("s'{{ 1 }}'", "ok"), ('"{{ a }}" "{{ b }}"', (203, 1, 11)),
+    ('."\\{" = 1', "ok"), ('."{{" = 1', "ok"), ('."{{ 1 }}\\{" = 1', "ok"), ('."\\{\\q" = 1', (203, 1, 1)), ('f()."\\{{"', "ok"), ('x."\\}" = 1', (203, 1, 1)),
+    ('{"{{ a }}": 1}', (203, 1, 2)), ('{"{{ a }}":', (203, 1, 2)), ('{"{{ a }}" + "": 1}', (203, 1, 16)), ('{"{{ a }}"}', "ok"), ('{"\\{{ a }}": 1}', "ok"), ('{"a": "{{ a }}", "{{ b }}": 1}', (203, 1, 18)), ('{"a": "{{ a }}"}', "ok"),
+    ('"{{ a }}" -1', "ok"), ('"{{ a }}".b', (203, 1, 10)), ('"{{ a }}"[0]', (203, 1, 10)), ('f("{{ a }}")[0]', "ok"), ('("{{ a }}").b', "ok"), ('if "{{ a }}" {}', "ok"), ('"{{ a }}"{}', (203, 1, 10)), ('"{{ a }}" = 1', (203, 1, 11)),
+    ('f("{{ a }}": 1)', (203, 1, 12)), ('f(a: "{{ a }}")', "ok"), ('del("{{ a }}")', "ok"), ('abort "{{ a }}"', "ok"), ('return "{{ a }}"', "ok"), ('x' + NL + '"{{ a }}"', "ok"), ('(x' + NL + '"{{ a }}")', (203, 2, 1)),
+    ('"{{ a }}"' + NL + '?? "{{ b }}"', "ok"), ('f(1) -> |v| { "{{ v }}" }', "ok"),
+]
+# A text, and the tree of its only item.
+TREES = [
+    ('"a{{ n }}c"', ["group", 0, 11, ["binary", 0, 11, "+", ["binary", 0, 11, "+", ["literal", 0, 11, "string", "a"], ["read", 5, 6, "n", []]], ["literal", 0, 11, "string", "c"]]]),
+    ('"{{n}}"', ["group", 0, 7, ["binary", 0, 7, "+", ["binary", 0, 7, "+", ["literal", 0, 7, "string", ""], ["read", 3, 4, "n", []]], ["literal", 0, 7, "string", ""]]]),
+    ('"é\\{{{a}}{{ b_ }}"', ["group", 0, 19, ["binary", 0, 19, "+", ["binary", 0, 19, "+", ["binary", 0, 19, "+", ["binary", 0, 19, "+", ["literal", 0, 19, "string", "é{"],
+                               ["read", 7, 8, "a", []]], ["literal", 0, 19, "string", ""]], ["read", 13, 15, "b_", []]], ["literal", 0, 19, "string", ""]]]),
+    ('"\\{{ a }}"', ["literal", 0, 10, "string", "{{ a }}"]),
 ]
 
 
@@ -122,7 +152,44 @@ def self_check():
                ("9999-12-30T00:00:00Z", None), ("0000-01-01T00:00:00+00:01", None), ("2024-01-01T24:00:00Z", None)]
     for text, want in moments:
         assert read_moment(text) == want, (text, read_moment(text))
-    return len(ROWS) + len(moments)
+    for text, want in TREES:
+        got = json.loads(case_line(text.encode(), read(text.encode())))["tree"]
+        assert got == [want], (text, got)
+    return len(ROWS) + len(moments) + len(TREES)
+
+
+# What a text in quotes is made of; a brace that another one follows is a template's.
+KEYWORD = "(?:" + "|".join(sorted(KEYWORDS)) + ")"
+PIECES = re.compile(r"\\(?P<escape>[nrt\\\"'0{])|\{\{[ \t\r]*(?!%s[ \t\r]*\}\})(?P<name>[A-Za-z_][A-Za-z0-9_]*)[ \t\r]*\}\}|(?P<plain>\{(?!\{)|[^\"\\{])" % KEYWORD, re.S)
+
+
+def divided(inside):
+    """What stands between two quotes: its texts and names, or the code of what is wrong there."""
+    if not re.fullmatch(r"(?:\\[nrt\\\"'0{]|[^\"\\])*", inside, re.S):
+        return 203
+    parts, at = [""], 0
+    while at < len(inside):
+        found = PIECES.match(inside, at)
+        if not found:
+            return 1016
+        if found["name"]:
+            parts += [found["name"], ""]
+        else:
+            parts[-1] += found["plain"] or "\n\r\t\\\"'\0{"["nrt\\\"'0{".index(found["escape"])]
+        at = found.end()
+    return parts
+
+
+def agree_on_texts(rng, count):
+    """Whether texts at random, half of them wrong, are divided so."""
+    for _ in range(count):
+        text = some_text(rng, ["a", "_b1", "nulls", "éa", "if", "a b"] if rng.random() < 0.2 else ["a", "_b1", "nulls"], 0.5)
+        try:
+            value = text_token(text, 0).value
+            told = [value] if isinstance(value, str) else [part if isinstance(part, str) else part.value for part in value]
+        except Fault as fault:
+            told = fault.code
+        assert told == divided(text[1:-1]), (text, told, divided(text[1:-1]))
 
 
 def told_by(program, data):
@@ -152,6 +219,7 @@ def main():
         return 0
     rows = self_check()
     rng = random.Random(given.seed)
+    agree_on_texts(rng, given.count)
     texts = list(hard_texts()) + [Maker(rng).text() for _ in range(given.count)]
     out = open(given.out, "w") if given.out else None
     met, differences = {}, 0

@@ -41,7 +41,11 @@ def scripts():
             ("closing braces", "}" * LONGEST), ("opening parentheses", "(" * LONGEST), ("opening brackets", "[" * LONGEST), ("quotes", '"' * LONGEST),
             ("signs", "!" * LONGEST), ("minus signs", "-" * LONGEST), ("bars", "|" * LONGEST), ("commas", "," * LONGEST), ("dots", "." * LONGEST),
             ("percent signs", "%" * LONGEST), ("a field of the metadata", "%" + "x" * 65531 + " = 1"), ("writes of the metadata", filled("%a=1;")), ("removals of the metadata", filled("del(%);")),
-            ("backslashes", "\\" * LONGEST), ("escapes", '.x = "' + "\\\\" * 32764 + '"'), ("a raw text", ".x = s'" + "\\'" * 32764 + "'"),
+            ("backslashes", "\\" * LONGEST), ("escapes", '.x = "' + "\\\\" * 32764 + '"'), ("escaped braces", '.x = "' + "\\{" * 32764 + '"'), ("braces in a text", '.x = "' + "{" * 65529 + '"'),
+            ("templates in a text", 'x = "' + "{{x}}" * 13105 + '"'), ("a template that is all blanks", 'x = "{{' + " " * 65520 + '}}"'), ("a template with many blanks", 'x = ""; .x = "{{' + " " * 65500 + 'x}}"'),
+            ("a template with a long name", 'x = "{{' + "x" * 65520 + '}}"'), ("a template that doesn't close", 'x = "{{ x' + " " * 65520), ("texts with templates", 't = "s";' + '.x="a{{t}}";' * 5400),
+            ("texts with 31 templates", 't = "s";' + ('.x="' + "{{t}}" * 31 + '";') * 400), ("writes of the last place", filled(".a[-1]=1;")), ("removals of the last place", filled("del(.a[-1]);")),
+            ("writes in front of an array", "".join(f".a[-{i}]=1;" for i in range(1, 5000))), ("writes in front of a variable", "x=[];" + "".join(f"x[-{i}]={i};" for i in range(1, 4000)) + ".x = x"), ("a raw text", ".x = s'" + "\\'" * 32764 + "'"),
             ("digits", ".x = " + "9" * 65531), ("zeros", ".x = " + "0" * 65530 + "7"), ("digits with low lines", ".x = " + "0_" * 32765 + "7"),
             ("a name", "x" * 65532 + " = 1"), ("a field", "." + "x" * 65531 + " = 1"), ("a name that isn't known", "x" * LONGEST),
             ("a read of 32,000 steps", ".x = " + ".a" * 32000), ("a read of 21,000 places", ".x = ." + "[0]" * 21000),
@@ -64,19 +68,25 @@ def scripts():
                 ("aborts", "abort " * depth + '"m"'), ("returns", "return " * depth + "1"), ("calls", "abs(" * depth + "1" + ")" * depth),
                 ("closures", "filter([1]) -> |a, b| { " * depth + "true" + " }" * depth), ("alternatives", "null || " * depth + "1"), ("merges", "{} | " * depth + "{}")):
             yield f"{depth} {title}", ".r = " + script if title not in ("aborts", "returns") else script, b"{}"
+    for many in (1, 29, 30, 31, 32, 33, 1000):
+        text = '"' + "{{t}}" * many + '"'
+        for title, script in (("alone", text), ("assigned", ".r = " + text), ("in parentheses", ".r = (" + text + ")"), ("beside a sum", '.r = "" + ' + text), ("in a call", ".r = upcase(" + text + ")"), ("as a name", ".r = {" + text + ": 1}"),
+                              ("in a closure", ".r = map_values([1]) -> |_| { " + text + " }")):
+            yield f"a text with {many} templates, {title}", "t = string(.t) ?? \"s\"\n" + script, b'{}\n{"t":"\\u00e9{"}'
     for depth in (3, 4, 5):
         yield f"{depth} closures in one another", "for_each([1]) -> |_, a| { " * depth + ".r = a" + " }" * depth, b"{}"
     for place in (65535, 65536, 9223372036854775807, 9223372036854775808):
         yield f"a write at the place {place}", f".a[{place}] = 1", b"{}"
         yield f"a read of the place {place}", f".r = .a[{place}]", b"{}"
         yield f"a removal of the place {place}", f"del(.a[{place}])", b'{"a":[1]}'
-    for place in (-1, -65536, -9223372036854775808, -9223372036854775809):
-        yield f"a write at the place {place}", f".a[{place}] = 1", b"{}"
-        yield f"a removal of the place {place}", f"del(.a[{place}])", b"{}"
+    for place in (-1, -2, -3, -65535, -65536, -65537, -9223372036854775808, -9223372036854775809):
+        yield f"a write at the place {place}", f".a[{place}] = 1", b'{}\n{"a":"t"}\n{"a":[]}\n{"a":[1]}\n{"a":[1,2]}\n{"a":[1,2,3]}\n{"a":{"b":1}}'
+        yield f"a removal of the place {place}", f"del(.a[{place}])", b'{}\n{"a":"t"}\n{"a":[]}\n{"a":[1]}\n{"a":[1,2]}\n{"a":[1,2,3]}\n{"a":{"b":1}}'
         yield f"a read of the place {place}", f".r = .a[{place}]", b'{"a":[1,2]}'
     for steps in (127, 128, 129):
         yield f"a write of {steps} steps", ".a" * steps + " = 1", b"{}\n{"
         yield f"a write of an object at {steps} steps", ".a" * steps + " = {}", b'{"b":1}'
+        yield f"a write of {steps} places from the end", "x" + "[-1]" * steps + " = 1\n.x = x", b"{}"
         yield f"a removal of {steps} steps", ".a" * (steps - 1) + " = {\"a\": 1}\ndel(" + ".a" * steps + ")", b"{}"
     for depth in (126, 127, 128, 129):
         data = b'{"a":' + b"[" * (depth - 1) + b"]" * (depth - 1) + b"}"

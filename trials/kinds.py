@@ -50,6 +50,8 @@ def some_case(maker):
     a = maker.kind(2)
     b = maker.near(a, 2)
     call = maker.rng.choice(CALLS)
+    if call in ("read", "remove", "write") and maker.rng.random() < 0.2:
+        a = maker.known_array(2)
     told = {"call": call}
     law = None
     if call in ("join", "within", "disjoint"):
@@ -81,15 +83,15 @@ def some_case(maker):
         answer = kind_of(told["value"])
         law = lambda q: {found_at(told["value"], q)} - {None}
     elif call in ("read", "remove", "may_be_absent"):
-        told["a"], told["path"] = a, maker.path(3, call == "read", a)
+        told["a"], told["path"] = a, maker.path(3, call != "may_be_absent", a)
         answer = {"read": read, "remove": remove, "may_be_absent": may_be_absent}[call](a, told["path"])
         if call == "may_be_absent":
             assert answer == kinds_at_paths.absent(at(a), told["path"]), (told, answer)
         else:
-            law = kinds_at_paths.read(at(a), told["path"], Paths([a]).places) if call == "read" else kinds_at_paths.remove(at(a), told["path"])
+            law = {"read": kinds_at_paths.read, "remove": kinds_at_paths.remove}[call](at(a), told["path"], Paths([a]).places)
     elif call == "write":
-        told["a"], told["path"], told["b"] = a, maker.path(3, False, a), maker.kind(1)
-        answer, law = write(a, told["path"], told["b"]), kinds_at_paths.write(at(a), told["path"], at(told["b"]))
+        told["a"], told["path"], told["b"] = a, maker.path(3, True, a), maker.kind(1)
+        answer, law = write(a, told["path"], told["b"]), kinds_at_paths.write(at(a), told["path"], at(told["b"]), Paths([a]).places)
     elif call == "list":
         places, rest = maker.array(2)
         told["places"], told["rest"] = places, rest
@@ -153,6 +155,25 @@ def self_check():
         (write(make(("null",), ([text], "nothing")), (0,), number), "[integer]"),
         (write(make(("null",), ([text, text], "nothing")), (0,), number), "[integer, ?string]"),
         (read(make((), ([text, number], "nothing")), (-1,)), "string|integer|null"),
+        # Written at places from the end: of one length, too short, of several lengths, beside another tag, of no array.
+        (write(make((), ([number, text], "nothing")), (-1,), flag), "[integer, boolean]"), (write(make((), ([number, text], "nothing")), (-2,), flag), "[boolean, string]"),
+        (write(make((), ([number, text], "nothing")), (-3,), flag), "[..string|integer|boolean|null]"), (write(make((), ([number, optional(text)], "nothing")), (-1,), flag), "[..string|integer|boolean|null]"),
+        (write(make((), ([number], number)), (-1,), flag), "[..integer|boolean|null]"), (write(make(("null",), ([number], "nothing")), (-1,), flag), "[..integer|boolean|null]"),
+        (write(optional(make((), ([number], "nothing"))), (-1,), flag), "[..integer|boolean|null]"), (write(make((), ([number], "nothing"), ({}, "nothing")), (-1,), flag), "[..integer|boolean|null]"),
+        (write(text, (-1,), number), "[..integer|null]"), (write(NEVER, (-1,), number), "[..integer|null]"), (write(make((), ((), "nothing")), (-1,), number), "[..integer|null]"), (write(JSON, (-1,), number), "[..json]"),
+        (write(JSON, (-1,), scalars("timestamp")), "[..string|integer|boolean|null|timestamp|[..json]|{..json}]"), (write(ANY, (-9,), number), "[..any]"), (write(EVENT, ("a", -1), number), '{"a": [..json], ..json}'),
+        (write(make((), ([number, text], "nothing")), (-1, "k"), flag), '[integer, {"k": boolean}]'), (write(make((), ([number], number)), (-1, "k"), flag), '[..integer|null|{"k": boolean}]'),
+        (write(make((), ((), make((), None, ({"j": number}, "nothing")))), (-1, "k"), flag), '[..null|{"j"?: integer, "k"?: boolean}]'),
+        (write(make((), ([make((), ([number], "nothing"))], "nothing")), (-1, -1), flag), "[[boolean]]"), (write(make((), ([make((), ([number], "nothing"))], "nothing")), (-1, -2), flag), "[[..integer|boolean|null]]"),
+        (write(NEVER, (-1, -1), number), "[..null|[..integer|null]]"), (write(NEVER, (-1, 1), number), "[..null|[null, integer]]"), (write(NEVER, (1, -1), number), "[null, [..integer|null]]"),
+        # Removed from the end.
+        (remove(make((), ([number, text], "nothing")), (-1,)), "[integer]"), (remove(make((), ([number, text], "nothing")), (-2,)), "[string]"), (remove(make((), ([number, text], "nothing")), (-3,)), "[integer, string]"),
+        (remove(make((), ([number, optional(text)], "nothing")), (-1,)), "[..string|integer]"), (remove(make((), ([number], text)), (-1,)), "[..string|integer]"), (remove(make(("null",), ([number, text], "nothing")), (-1,)), "null|[integer]"),
+        (remove(make(("null",), ([number, text], "nothing")), (-3,)), "null|[integer, string]"), (remove(make((), ([number], text), ({}, "nothing")), (-1,)), "[..string|integer]|{}"), (remove(text, (-1,)), "string"), (remove(NEVER, (-1,)), "never"),
+        (remove(make((), ((), "nothing")), (-1,)), "[]"), (remove(make((), ([optional(number)], "nothing")), (-1,)), "[..integer]"), (remove(JSON, (-1,)), "json"),
+        (remove(make((), ([make((), None, ({"k": flag}, "nothing"))], "nothing")), (-1, "k")), "[{}]"), (remove(make((), ((), make((), None, ({"k": flag}, "nothing")))), (-1, "k")), '[..{"k"?: boolean}]'),
+        (remove(make((), ([number, make((), ([number, flag], "nothing"))], "nothing")), (-1, -2)), "[integer, [boolean]]"), (remove(make((), ((), make((), ([number, flag], "nothing")))), (-1, -2)), "[..[integer|boolean, ?boolean]]"),
+        (remove(EVENT, ("a", -1)), '{..json}'),
         (kind_file(b'{"object":{"m":"string"},"rest":"nothing"}'), '{"m": string}'),
         (kind_file(b'{"object":{"m":"text"}}'), "kind file: bad kind at /object/m"), (kind_file(b"{"), "kind file: not JSON"),
         (kind_file(b'{"object":{"n":{"optional":["integer","null"]}}}'), '{"n"?: integer|null, ..json}'),

@@ -174,6 +174,12 @@ def scripts():
     """Titles, scripts, events and what they come to: scripts that ask for much."""
     small = {"t": "a", "l": [1], "o": {"a": 1}}
     yield "a text that doubles", ".r = t\n" + ".r = string(.r) + string(.r)\n" * 60, small, MEMORY
+    yield "a text that doubles by templates", "x = t\n" + 'x = "{{ x }}{{ x }}"\n' * 60 + ".r = x", small, MEMORY
+    yield "a text of a megabyte in 29 templates", ".r = length(\"" + "{{ t }}" * 29 + "\")", {"t": "a" * 1000000}, 29000000
+    yield "the last place of a long array, written 5,000 times", "l[-1]=1\n" * 5000 + ".r = length(l)", {"l": NUMBERS}, MANY
+    yield "the last place of a long array, removed 4,000 times", "del(l[-1])\n" * 4000 + ".r = length(l)", {"l": NUMBERS}, MANY - 4000
+    yield "an array that grows at its front 5,000 times", "x = []\n" + "".join(f"x[-{i}]=1\n" for i in range(1, 5001)) + ".r = length(x)", small, 5000
+    yield "the farthest place from the end, written 3,000 times", ".a[-65536]=1\n" * 3000 + ".r = length(.a)", small, 65536
     yield "an array that doubles", "x = l\n" + "x = append(x, x)\n" * 60 + ".r = length(x)", small, MEMORY
     yield "an array of itself", "x = l\n" + "x = [x, x]\n" * 60 + ".r = length(x)", small, MEMORY
     yield "quotes in quotes", "x = \"\\\"\"\n" + "x = encode_json(x)\n" * 60 + ".r = length(x)", small, MEMORY
@@ -234,6 +240,7 @@ DEAR = {
     "the greatest place, 3,000 times": (40, FILLS),
     "the greatest place in an array, 3,000 times": (40, FILLS),
     "the greatest place, written 3,000 times": (40, PLACES),
+    "the farthest place from the end, written 3,000 times": (40, PLACES),
     "the greatest place of a variable, written 1,000 times": (20, PLACES),
     "1,000 copies of an event of 1 MB": (20, WALKS),
     "1,000 comparisons of an event of 1 MB": (20, WALKS),

@@ -3,7 +3,8 @@
     python3 trials/paths.py [--seed N] [--count N] [--out FILE]
 
 Each set and each removal is held against what look-up must find afterwards at every path to depth three over the fields
-and places that occur. Each is also held against kinds: where a value inhabits a kind, what is read, written and left
+and places that occur; a place from the end stands for one from the start, of the value with the nulls that a write puts in
+front of an array. Each is also held against kinds: where a value inhabits a kind, what is read, written and left
 inhabits the kind of the read, the write and the removal, and a path that may not be absent is there. With --out the
 cases go to FILE, a JSON object a line, values written as `cases.py` tells:
 
@@ -33,7 +34,7 @@ PATHS = [()] + [(s,) for s in STEPS] + [(s, t) for s in STEPS for t in STEPS] + 
 
 
 def raw(value, path):
-    """The sub-tree at a path without negative places, absent, or no place."""
+    """The sub-tree at a path without places from the end, absent, or no place."""
     for number, step in enumerate(path):
         tag, held = value
         if tag != kinds.fit(step):
@@ -47,6 +48,30 @@ def raw(value, path):
 
 def tree(found):
     return found not in (GONE, NOWHERE)
+
+
+def from_the_front(value, path):
+    """The path with the places that those from the end stand for in a write, and the value with the nulls that are first put in front of arrays."""
+    for at, step in enumerate(path):
+        if isinstance(step, int) and step < 0:
+            found = raw(value, path[:at])
+            held = found[1] if tree(found) and found[0] == "array" else ()
+            if len(held) + step < 0:
+                held = (NULL,) * (-step - len(held)) + held
+                value = put(value, path[:at], ("array", held))
+            path = path[:at] + (len(held) + step,) + path[at + 1:]
+    return value, path
+
+
+def there(value, path):
+    """The path with the places that those from the end stand for in a removal, None where there is none."""
+    for at, step in enumerate(path):
+        if isinstance(step, int) and step < 0:
+            found = raw(value, path[:at])
+            if not tree(found) or found[0] != "array" or len(found[1]) + step < 0:
+                return None
+            path = path[:at] + (len(found[1]) + step,) + path[at + 1:]
+    return path
 
 
 def after_set(value, path, new, q):
@@ -123,7 +148,7 @@ class Maker:
     def case(self):
         call = self.rng.choice(["get", "exists", "set", "set", "put", "remove", "remove"])
         value = self.value(3)
-        path = self.path(value, call in ("get", "exists"))
+        path = self.path(value, self.rng.random() < 0.5)
         new = self.value(1)
         if call in ("set", "put") and self.rng.random() < 0.05:
             new = self.deep(self.rng.choice([125, 126, 127, 128, 129]))
@@ -136,13 +161,15 @@ class Maker:
             made = put(value, path, new)
             one["new"] = new
             one["want"] = "too deep" if call == "set" and depth(made) > 128 else made
-            above = {path[:i] for i in range(len(path))}
-            assert agrees(made, lambda q: after_set(value, path, new, q), above), one
+            before, plain = from_the_front(value, path)
+            above = {plain[:i] for i in range(len(path))}
+            assert agrees(made, lambda q: after_set(before, plain, new, q), above), one
         else:
             one["want"] = get(value, path) if path else None
             one["left"] = cut_out(value, path) if path else value
-            above = {path[:i] for i in range(len(path))}
-            assert agrees(one["left"], lambda q: after_removal(value, path, q), above), one
+            plain = there(value, path) or ()
+            above = {plain[:i] for i in range(len(plain))}
+            assert agrees(one["left"], lambda q: after_removal(value, plain, q), above), one
         return one
 
     def law(self):
@@ -154,9 +181,8 @@ class Maker:
             return 0
         path = self.path(value, True)
         assert kinds.inhabits(get(value, path) or NULL, kinds.read(kind, path)), (value, kinds.print_kind(kind), path)
-        if any(isinstance(step, int) and step < 0 for step in path):
-            return 1
-        assert kinds.may_be_absent(kind, path) or get(value, path) is not None, (value, kinds.print_kind(kind), path)
+        if not any(isinstance(step, int) and step < 0 for step in path):
+            assert kinds.may_be_absent(kind, path) or get(value, path) is not None, (value, kinds.print_kind(kind), path)
         left = cut_out(value, path) if path else value
         assert kinds.inhabits(left, kinds.remove(kind, path)), (value, kinds.print_kind(kind), path)
         if kinds.inhabits(new, new_kind):
@@ -173,7 +199,15 @@ def line_of(one):
 
 def self_check():
     s, i = lambda held: ("string", held), lambda held: ("integer", held)
+    array = lambda *every: ("array", every)
+    at = lambda *held: objects({"a": array(*held)})
     rows = [
+        (put(at(i(1), i(2), i(3)), ("a", -2), i(9)), at(i(1), i(9), i(3))), (put(at(i(1)), ("a", -2), i(9)), at(i(9), i(1))), (put(at(i(1)), ("a", -4), i(9)), at(i(9), NULL, NULL, i(1))),
+        (put(at(i(1), i(2)), ("a", -2), i(9)), at(i(9), i(2))), (put(objects({"a": s("t")}), ("a", -1), i(1)), at(i(1))), (put(objects({}), ("a", -3), i(1)), at(i(1), NULL, NULL)), (put(NULL, (-1, -2), i(1)), array(array(i(1), NULL))),
+        (put(objects({"a": objects({"b": NULL})}), ("a", -1), i(1)), at(i(1))), (put(at(objects({"b": i(1)})), ("a", -1, "c"), i(2)), at(objects({"b": i(1), "c": i(2)}))), (put(at(i(1)), ("a", -2, "c"), i(2)), at(objects({"c": i(2)}), i(1))),
+        (put(array(array(i(1)), i(2)), (-2, -2), i(9)), array(array(i(9), i(1)), i(2))), (put(array(array(i(1)), i(2)), (-2, 1), i(9)), array(array(i(1), i(9)), i(2))),
+        (cut_out(at(i(1), i(2)), ("a", -1)), at(i(1))), (cut_out(at(i(1), i(2)), ("a", -2)), at(i(2))), (cut_out(at(i(1), i(2)), ("a", -3)), at(i(1), i(2))), (cut_out(array(), (-1,)), array()), (cut_out(objects({"a": s("t")}), ("a", -1)), objects({"a": s("t")})),
+        (cut_out(at(objects({"b": i(1)}), i(2)), ("a", -2, "b")), at(objects({}), i(2))), (cut_out(array(i(1), array(i(2), i(3))), (-1, -2)), array(i(1), array(i(3)))), (cut_out(at(i(1), i(2)), ("a", -1, "b")), at(i(1), i(2))),
         (put(objects({"a": s("t")}), ("a", 2), i(1)), objects({"a": ("array", (NULL, NULL, i(1)))})),
         (cut_out(objects({"a": ("array", (i(1), i(2)))}), ("a", 0)), objects({"a": ("array", (i(2),))})),
         (get(objects({"a": ("array", (i(1), i(2)))}), ("a", -1)), i(2)), (get(("array", ()), (-1,)), None),

@@ -16,6 +16,7 @@ import argparse
 import contextlib
 import json
 import random
+import re
 import sys
 import time
 
@@ -41,18 +42,15 @@ DEEP = ["push", "append", "zip", "unique", "compact", "flatten", "values", "get"
 
 
 def expression(value, sources):
-    """A value as a script writes it, None where it can't be written so."""
+    """A value as a script writes it."""
     tag, held = value
     if tag == "array":
-        parts = [expression(one, sources) for one in held]
-        return None if None in parts else "[" + ", ".join(parts) + "]"
+        return "[" + ", ".join(expression(one, sources) for one in held) + "]"
     if tag == "object":
-        pairs = [(expression(("string", name), sources), expression(one, sources)) for name, one in held]
-        return None if any(None in pair for pair in pairs) else "{" + ", ".join(f"{name}: {one}" for name, one in pairs) + "}"
+        return "{" + ", ".join(expression(("string", name), sources) + ": " + expression(one, sources) for name, one in held) + "}"
     if tag == "string":
-        if "{{" in held:
-            return None
-        return '"' + "".join({'"': '\\"', "\\": "\\\\", "\n": "\\n", "\t": "\\t", "\r": "\\r", "\0": "\\0"}.get(c, c) for c in held) + '"'
+        spelt = "".join({'"': '\\"', "\\": "\\\\", "\n": "\\n", "\t": "\\t", "\r": "\\r", "\0": "\\0"}.get(c, c) for c in held)
+        return '"' + re.sub(r"\{(?=\{)", r"\\{", spelt) + '"'
     if tag == "regex":
         return "r'" + sources[held] + "'"
     return {"integer": lambda: str(held), "boolean": lambda: "true" if held else "false", "null": lambda: "null", "timestamp": lambda: f"t'{moment_text(held)}'"}[tag]()
@@ -141,7 +139,7 @@ class Trial:
             value = fixed[parameter.name]
             told = expression(value, maker.sources)
             how = rng.random()
-            if parameter.literal or (how < 0.45 and told is not None and len(told) < 700):
+            if parameter.literal or (how < 0.45 and len(told) < 700):
                 spelt[parameter.name] = told
             elif deep and how < 0.9:
                 spelt[parameter.name] = self.wrapped(value)

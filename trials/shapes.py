@@ -35,7 +35,7 @@ BRACKETS = [("(", ")"), ("[", "]"), ("{", "}"), ('{"a":', "}"), ("if true {", "}
 SIGNS = ["{", "}", "[", "]", ",", ":", '"a"', '"b"', '""', '"\\u0061"', "0", "-1", "1.5", "9223372036854775807", "9223372036854775808", "1e9", "true", "false", "null", " ", "\t", '"\\n\\\\"', "-", '"', "\\", "é", "\U0001f600"]
 WORDS = ['"object"', '"array"', '"rest"', '"optional"', '"string"', '"integer"', '"boolean"', '"null"', '"json"', '"nothing"', '"a"', '"b"', "{", "}", "[", "]", ",", ":", "1", "true", " "]
 # What is done with a line.
-USES = [".x = 1", ".x = 1", ".t = encode_json(.)", ". = [., {\"a\": .}]", ".k = keys(.)\n.n = length(.)", ". = compact(.)", "x = .\n.same = x == ."]
+USES = [".x = 1", ".x = 1", ".t = encode_json(.)", ". = [., {\"a\": .}]", ".k = keys(.)\n.n = length(.)", ". = compact(.)", "x = .\n.same = x == .", ".a[-1] = 1\ndel(.a[-2])\ndel(.b[-1])", "t = string(.a) ?? \"\"\n.t = \"{{ t }}-{{ t }}\""]
 
 
 def about(rng, size):

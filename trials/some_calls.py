@@ -2,6 +2,7 @@
 
 from reading.functions import ROWS
 from reading.kinds import TAGS
+from some_texts import some_text
 
 LITERALS = {
     "string": ['"s"', '""', '"a,b"', '"12"', '"a"', '"{\\"a\\": 1}"', '"k=v"', '"aGk="', '"2024-01-02T03:04:05Z"', '"-"', '"yes"', '"é b"', "s'0x1f'", '"http://u@h:81/p?q=1&q=2#f"',
@@ -34,7 +35,7 @@ def call(maker, depth):
     arguments, named = [], False
     for one in row.parameters:
         if one.required or rng.random() < 0.4:
-            value = rng.choice(maker.PLACES) if row.path and rng.random() < 0.95 else fitting(maker, one, depth)
+            value = maker.place() if row.path and rng.random() < 0.95 else fitting(maker, one, depth)
             named = named or rng.random() < 0.15
             arguments.append((one.name + ": " if named else "") + value)
         else:
@@ -62,7 +63,7 @@ def loop(maker):
     """Lines with a closure that takes more than one try to be kept."""
     pick = maker.rng.choice
     value = lambda: pick(["1", '"s"', "true", "null", "{}", "[1]", ".a", "v", "k", '{"a": x}', "[y]", "x", "%", "%a"])
-    steps = [pick(["y = x", "x = y", ".a = y", ".a = x", f"x = {value()}", f"y = {value()}", f".a = {value()}", "x.a = y", "del(x.a)", "del(.a)",
+    steps = [pick(["y = x", "x = y", ".a = y", ".a = x", f"x = {value()}", f"y = {value()}", f".a = {value()}", "x.a = y", "del(x.a)", "del(.a)", f"x[-1] = {value()}", f"x[-2] = {value()}", "del(x[-1])", "del(x.a[-2])", "y[-1] = x", ".a[-1] = y", "x = \"{{ k }}\" ?? \"{{ y }}\"",
                    "y = x; x = " + value(), "x, y = to_int(.a)", "y = .a", "if v == 1 { x = y }", ".b = x + 1 ?? 0",
                    "%a = y", f"%a = {value()}", "%b.a = x", "x = %a", "del(%a)", "del(%)", "% = {}", f"% = {{\"a\": {value()}}}", "%a, y = to_int(.b)"]) for _ in range(pick([1, 2, 3]))]
     first = f"x = {pick(['1', 'true', '{}', '[1]', 'null'])}\ny = {pick(['1', 'true', '{}', '[1]', 'null'])}\n"
@@ -77,10 +78,12 @@ def closure_body(maker, name, names, depth):
     items = [maker.items(min(depth - 1, 1))] if rng.random() < 0.6 else []
     if rng.random() < 0.5:
         items.append(rng.choice(["x = x + 1 ?? 0", "x = push(array(x) ?? [], %s)", ".a = %s", "x.a = %s", "del(.b)", "x = {\"a\": x}", "y = x",
-                                 "x = %s", "y = x; x = %s", "x = y; y = %s", "x = if x == 1 { \"s\" } else { x }",
+                                 "x = %s", "y = x; x = %s", "x = y; y = %s", "x = if x == 1 { \"s\" } else { x }", "x[-1] = %s", "x[-2] = %s", "x.a[-1] = %s", ".a[-1] = %s", "del(x[-1])", "del(x[-2])", "del(.a[-1])",
                                  "%a = %s", "%a = x", "del(%b)", "del(%)", "% = {\"a\": %s}", "x = %a"]).replace("%s", rng.choice(names + ["1", '"s"', "x"])))
+    if rng.random() < 0.1:
+        items.append(rng.choice([".a = %s", "x = %s", "%a = %s", "x = %s ?? \"s\"", "x, y = %s"]).replace("%s", some_text(rng, [one for one in names if one != "_"] + ["x", "y"], 0.02)))
     last = {"filter": ["true", "%s == 1", "is_string(%s)", "%s"],
-            "map_keys": ['"k"', "upcase(%s)", "%s", "to_string(%s) ?? \"q\""]}.get(name, ["%s", "1", "[%s]"])
+            "map_keys": ['"k"', "upcase(%s)", "%s", "to_string(%s) ?? \"q\"", '"k_{{ %s }}"']}.get(name, ["%s", "1", "[%s]", '"<{{ %s }}>"'])
     if name != "for_each" or rng.random() < 0.3:
         items.append(rng.choice(last).replace("%s", rng.choice([n for n in names if n != "_"] or ["1"])))
     return "; ".join(one for one in items if one)

@@ -2,7 +2,7 @@
 
 import json
 
-from reading.kinds import ABSENT, ANY, EVENT, GONE, JSON, NEVER, SCALARS, Kind, join, kind_of, make, minus, own, part, plus, remove, rest_of, root_tags, scalars, write
+from reading.kinds import ABSENT, ANY, EVENT, GONE, JSON, NEVER, SCALARS, Kind, join, kind_of, make, minus, own, part, parts, plus, remove, rest_of, root_tags, scalars, write
 
 FIELDS = ("a", "b", "é", "fresh")
 
@@ -25,6 +25,10 @@ class Maker:
 
     def array(self, depth):
         return [self.part(depth - 1) for _ in range(self.rng.randrange(4))], self.rest(depth)
+
+    def known_array(self, depth):
+        """The arrays of one length."""
+        return make((), ([self.kind(depth - 1) for _ in range(self.rng.randrange(4))], "nothing"))
 
     def object(self, depth):
         return {self.rng.choice(FIELDS[:3]): self.part(depth - 1) for _ in range(self.rng.randrange(4))}, self.rest(depth)
@@ -90,12 +94,12 @@ class Maker:
         steps = []
         for _ in range(self.rng.choice([0, 1, 1, 2, 2, 3][:2 * most])):
             place = self.rng.randrange(4)
-            if negative and self.rng.random() < 0.2:
-                place = -1 - self.rng.randrange(3)
+            if negative and self.rng.random() < 0.3:
+                place = self.rng.choice([-1, -1, -2, -2, -3, -4, -5, -65536])
             fitting = [tag for tag in ("array", "object") if tag in root_tags(kind)]
             tag = self.rng.choice(fitting if fitting and self.rng.random() < 0.8 else ["array", "object"])
             steps.append(self.rng.choice(FIELDS) if tag == "object" else place)
-            kind = part(kind, steps[-1]) if not tag == "array" or place >= 0 else ANY
+            kind = part(kind, steps[-1]) if tag == "object" or place >= 0 else parts(kind._replace(object=None))
         return tuple(steps)
 
     def big(self):

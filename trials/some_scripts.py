@@ -2,7 +2,7 @@
 This file runs nothing by itself."""
 
 from reading.moments import read_moment
-from some_texts import some_moment
+from some_texts import some_moment, some_text
 
 
 class Maker:
@@ -10,6 +10,10 @@ class Maker:
 
     PLACES = [".", ".a", ".b", ".a.b", ".a[0]", ".b[1]", "x", "y", "x.a", "x[0]", "y.a", ".a[-1]", "x.a.b", "%", "%a", "%b.a", "%a[0]"]
     TARGETS = [".", ".a", ".b", ".a.b", ".a[0]", ".b[1]", "x", "x", "y", "x.a", "x[0]", "y.a", "x.a[1]", "_", "_.a", "%", "%a", "%b", "%b.a", "%[0]"]
+    # Places from the end that are written or deleted, and those about their limit, which make long arrays in variables alone.
+    FROM_THE_END = [".a[-1]", ".a[-1]", ".a[-2]", ".b[-1]", ".c[-1]", ".a.b[-1]", ".[-1]", "x[-1]", "x[-1]", "x[-2]", "x[-2]", "x[-3]", "y[-1]", "y[-2]", "x.a[-1]", "x.a[-2]", "x[-1].a", "x[0][-1]", "x[-1][-1]", "x[-1][1]",
+                    ".a[-1].b[-2]", ".a[-1][-2]", "%a[-1]", "%[-1]", "_[-1]"]
+    FAR = [".a[-20]", "x[-100]", "x[-65535]", "x[-65536]", ".a[-65537]", "x[-1][-65537]"]
     LITERALS = ["1", '"s"', "true", "null", "t'2024-01-02T03:04:05Z'", "r'a'", "-2", '""', "false"]
     SIGNS = ["+", "+", "+", "-", "*", "==", "!=", "<", ">=", "|", "|", "&&", "&&", "||", "||", "??", "??", "??"]
 
@@ -20,10 +24,26 @@ class Maker:
     def pick(self, *weighted):
         return self.rng.choices([w[0] for w in weighted], [w[1] for w in weighted])[0]
 
+    def from_the_end(self):
+        return self.rng.choice(self.FAR if self.rng.random() < 0.03 else self.FROM_THE_END)
+
+    def target(self):
+        return self.from_the_end() if self.rng.random() < 0.15 else self.rng.choice(self.TARGETS)
+
+    def place(self):
+        """What a `del` or an `exists` may be given."""
+        return self.from_the_end() if self.rng.random() < 0.2 else self.rng.choice(self.PLACES)
+
+    def text(self):
+        """A text, mostly with templates of the variables."""
+        return some_text(self.rng, ["x", "y"] if self.rng.random() < 0.95 else ["x", "_", "q", "k"], 0.02)
+
     def atom(self):
         if self.rng.random() < 0.02:
             moment = some_moment(self.rng)
             return moment if read_moment(moment[2:-1]) is not None else "1"
+        if self.rng.random() < 0.06:
+            return self.text()
         return self.rng.choice(self.LITERALS) if self.rng.random() < 0.45 else self.rng.choice(self.PLACES)
 
     def expression(self, depth):
@@ -72,7 +92,7 @@ class Maker:
     def item(self, depth):
         how = self.pick(("assign", 8), ("merge", 1), ("both", 2.5), ("return", 0.4), ("abort", 0.3), ("expression", 3), ("guarded", 2),
                         ("called", 4 if self.calls else 0))
-        target = lambda: self.rng.choice(self.TARGETS)
+        target = self.target
         if how == "assign":
             return f"{target()} = {self.single(depth - 1) if self.rng.random() < 0.08 else self.expression(depth)}"
         if how == "called":
@@ -87,21 +107,27 @@ class Maker:
         if how == "return":
             return f"return {self.expression(depth)}"
         if how == "abort":
-            return "abort" + self.pick(("", 1), (' "m"', 1), (" " + self.expression(depth - 1), 1))
+            return "abort" + self.pick(("", 1), (' "m"', 1), (" " + self.text(), 0.3), (" " + self.expression(depth - 1), 1))
         return self.expression(depth)
 
     def single(self, depth):
         """What stands to the right of a target and isn't an operand."""
-        target = self.rng.choice(self.TARGETS)
+        target = self.target()
         return self.pick((f"{target} = {self.expression(depth)}", 3), (f"{target} |= {self.expression(depth)}", 1),
                          (f"return {self.expression(depth)}", 1), ("abort", 1), (f"abort {self.expression(depth)}", 1))
+
+    def array(self):
+        """An array, or what holds one: of a known length, or of one of several."""
+        called = [one for one in ("array(.a) ?? []", "array!(.b)", "push([1], .b)", 'split("a,b", ",")') if self.calls and (not self.names or one[:one.index("(")].strip("!") in self.names)]
+        return self.rng.choice(["[]", "[null, {}]", '[[1], {"a": [2, "s"]}]', '{"a": [1, true]}', "[[1, 2], []]", 'if .c == null { [1] } else { [true, "s"] }', "if .c == null { [{}, 1] } else { 1 }", "if .c == null { [[1], 1] }",
+                                '{"a": if .c == null { [] } else { ["s", 1] }}', "{ z = []; z[2] = 1; z }", "{ z = [1]; z[-3] = \"s\"; z }", *called])
 
     def script(self):
         lines = []
         if self.rng.random() < 0.7:
-            lines.append("x = " + self.rng.choice(["1", '"s"', "{}", '{"a": 1}', "[1]", "null", ".a", "true", ".", "%"]))
+            lines.append("x = " + self.rng.choice(["1", '"s"', '"s"', "{}", '{"a": 1}', "[1]", '[1, "s"]', "null", ".a", "true", ".", "%", self.array(), self.array()]))
         if self.rng.random() < 0.5:
-            lines.append("y = " + self.rng.choice(["1", '"s"', "{}", '{"a": "s"}', "[]", "null", ".b", "x", "%a"]))
+            lines.append("y = " + self.rng.choice(["1", '"s"', '"é"', "{}", '{"a": "s"}', "[]", "null", ".b", "x", "%a", self.array()]))
         if self.calls and self.rng.random() < 0.1:
             lines.append(self.calls.loop(self))
         if self.rng.random() < 0.08:

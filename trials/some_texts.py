@@ -2,15 +2,17 @@
 
 from reading.tokens import BINARY
 
-FIELDS = ["a", "b", "x1", "_", "@t", "if", '"a b"', '"\\""', '"{{"', '""', "9"]
+FIELDS = ["a", "b", "x1", "_", "@t", "if", '"a b"', '"\\""', '"{{"', '"\\{{ a }}"', '""', "9"]
 NAMES = ["x", "y", "k", "v", "_", "err", "value", "s", "r", "t"]
 FUNCTIONS = ["del", "del!", "to_int", "upcase!", "foo", "for_each", "exists", "_"]
 LITERALS = [
     "0", "1", "-1", "1_000", "9223372036854775807", "-9223372036854775808", '"a"', '""', '"\\n\\0"', '"a\nb"', "s'a'", "s'\\''",
-    "r'a+'", "r'\\d'", "t'2024-01-02T03:04:05Z'", "t'2024-02-29t00:00:00.5+01:00'", "true", "false", "null",
+    '"\\{{ 1 }}"', '"{{ x }}"', '"a{{y}}\\{{{ _\t}}"', "r'a+'", "r'\\d'", "t'2024-01-02T03:04:05Z'", "t'2024-02-29t00:00:00.5+01:00'", "true", "false", "null",
 ]
 ODD = [
     "1.5", "1e5", "1E+5", "1_", "1__0", "12x", "9223372036854775808", "-9223372036854775809", "99999999999999999999x", '"{{ a }}"',
+    '"{{ 1 }}"', '"{{ if }}"', '"{{}}"', '"{{{ a }}"', '"{{ a }}}"', '"{{ a }"', '"{{"', '"{{ a.b }}"', '"{{ a\n}}"', '"\\}"', '"\\{{{a}}"', '"\\\\{{ 1 }}"', '"{{ 1 }}\\q"', '"{{ \\" }}"', "s'{{ a }}'",
+    ".a[-1]", ".a[-65536]", ".a[-65537]", '."\\{"',
     '"\\q"', '"\\q{{"', '"a', "s'a", "r'", "t'now'", "t'2023-02-29T00:00:00Z'", "/", "%", "??=", "?", "&", "@", "'", "é", "\\", "$",
     ".a[9223372036854775808]", 'a."\\q"', '."a', "x[-1]", ".a[65535]", ".a[65536]", ".a[-0]", ".[0]", ". a", "..a", "a.", "x[ 0]",
     "%a", "%[0]", "%.a", "%%", '%"q', '%"\\q"', "%[-1]", "% a", "5 % 2", "5%2", "%-1", "% -1", "%=", "x%y", "%if", "%@t[65536]",
@@ -19,6 +21,10 @@ ODD = [
 ]
 BLANKS = [" ", " ", " ", " ", "  ", "\t", "\r", "\n", "\n ", " # c\n", ""]
 BINARIES = sorted(BINARY)
+# What stands beside templates, and what stands at the end of a text alone: in front of a template it would be a part of a wrong one.
+BESIDE = ["", "", "", "a", " ", "-", "é", "}", "}}", "$1", "#", ";", "'", "\n", "\\n", "\\{", "\\{\\{", "\\{{ x }}", "\\\\", '\\"', "\\0"]
+LAST = BESIDE + ["{", "{ {", "{ x }}"]
+WRONG = ["{{ 1 }}", "{{}}", "{{ if }}", "{{ x.a }}", "{{ .a }}", "{{ % }}", "{{ x[0] }}", "{{ x", "{{ x }", "{{ x } }", "{{ x y }}", "{{\nx }}", "{{ x\n}}", "{{{ x }}", "{{ é }}", "{{ \\n }}", "{{ \\q }}", "\\}", "{{ s'x' }}"]
 
 
 def some_moment(rng):
@@ -34,6 +40,18 @@ def some_moment(rng):
         part = rng.randrange(5)
         parts[part] = pick(edges[part])
     return "t'" + "".join(parts) + "'"
+
+
+def some_text(rng, names, wrong):
+    """A text with 0 to 32 templates of these names; one of them, or an escape, is wrong at this rate."""
+    blank = lambda: rng.choice(["", "", " ", " ", " ", "\t", "  ", "\r", " \t "])
+    pieces = []
+    for _ in range(rng.choice([0, 1, 1, 1, 1, 1, 2, 2, 2, 3, 5]) if rng.random() < 0.98 else rng.choice([10, 20, 29, 30, 31, 32])):
+        pieces += [rng.choice(BESIDE), "{{" + blank() + rng.choice(names) + blank() + "}}"]
+    pieces.append(rng.choice(LAST))
+    if rng.random() < wrong:
+        pieces.insert(rng.randrange(len(pieces)), rng.choice(WRONG))
+    return '"' + "".join(pieces) + '"'
 
 
 class Maker:
@@ -83,6 +101,8 @@ class Maker:
         pick = self.rng.random()
         if pick < 0.03:
             return [some_moment(self.rng)]
+        if pick < 0.07:
+            return [some_text(self.rng, NAMES, 0.15)]
         if depth <= 0 or pick < 0.3:
             return [self.rng.choice(LITERALS)] if self.rng.random() < 0.5 else self.target()
         if pick < 0.5:
@@ -92,7 +112,7 @@ class Maker:
         if pick < 0.7:
             return self.suffixed(["("] + self.item(depth - 1) + [")"])
         if pick < 0.8:
-            pair = lambda: [self.rng.choice(['"a"', '"b"', '"a\\""'])] + [":"] + self.single(depth - 1)
+            pair = lambda: [self.rng.choice(['"a"', '"b"', '"a\\""', '"\\{{ a }}"'] + ['"{{ a }}"'] * (self.rng.random() < 0.1))] + [":"] + self.single(depth - 1)
             return ["{"] + self.listed(pair) + ["}"]
         if pick < 0.9:
             return self.block(depth - 1)
@@ -129,7 +149,7 @@ class Maker:
         first = out in ".%"
         for _ in range(self.rng.choice([0, 0, 1, 1, 2])):
             if self.rng.random() < 0.25:
-                out += "[" + self.rng.choice(["0", "1", "-1", "-0", "65535", "65536", "9223372036854775807"]) + "]"
+                out += "[" + self.rng.choice(["0", "1", "-1", "-2", "-0", "65535", "65536", "-65536", "-65537", "9223372036854775807"]) + "]"
             else:
                 out += ("" if first else ".") + self.rng.choice(FIELDS)
             first = False
@@ -171,9 +191,9 @@ class Maker:
     def deep(self):
         """Nesting about the limit."""
         size = self.rng.choice([1, 2, 5, 20, 61, 62, 63, 64, 65, 66])
-        core = self.rng.choice(["1", "x = 1", "!true", "", "1 + 1", "f(1)", "{}", "if x {}", "abort"])
+        core = self.rng.choice(["1", "x = 1", "!true", "", "1 + 1", "f(1)", "{}", "if x {}", "abort", '"{{ x }}"', '"{{ x }}{{ x }}"'])
         openings = self.rng.choice([["("], ["["], ["{"], ["!"], ["(", "[", "{", "!", "- ", "x = ", "return ", "1 + ", "if "], ["x = "],
-                                    ["f("], ["1 + "], ["1 ?? ", "x || "], ["1,", "(1;"], ["{\"a\":"], ["(1)+"], ["(x|"]])
+                                    ["f("], ["1 + "], ["1 ?? ", "x || "], ["1,", "(1;"], ["{\"a\":"], ["(1)+"], ["(x|"], ['"{{ x }}" + ', "("]])
         picked = [self.rng.choice(openings) for _ in range(size)]
         closing = {"(": ")", "[": "]", "{": "}"}
         text = "".join(picked) + core
@@ -222,6 +242,10 @@ def hard_texts():
         yield b"del(x" + b"[0]" * size + b")"
         yield b"del(v: x" + b".a" * size + b")"
         yield b"y = x" + b".a" * size
+        yield b"x" + b"[-1]" * size + b" = 1"
+    for size in (1, 2, 29, 30, 31, 32, 33, 1000):
+        for frame in (b"%s", b"x = %s", b"(%s)", b"x = %s + 1", b"f(%s, 1 + 1)", b"%s%s", b"%s; %s", b"[%s, %s]", b"{\"a\": %s}", b"{%s: 1}", b"f() -> |v| { %s }", b"if %s {}", b"!%s"):
+            yield frame.replace(b"%s", b'"' + b"{{ x }}" * size + b'"')
     for odd in ODD + LITERALS + FIELDS:
         for frame in ("%s", ".x = %s", "x%s", "x %s 1", "(%s)", "[1]%s", "f(%s)", "f()%s", "{%s}", "%s = 1", "del(%s)", "x\n%s", "x%s\n",
                       "(x\n%s)", "1 %s", "if x %s {}", "f() -> |v|%s{}", "x, %s = 1", "%s%s", "-%s"):

@@ -47,7 +47,7 @@ def arrange(tokens):
                 word = "{block"
             elif before == "closing bar":
                 word = "{body"
-            elif follows == "}" or (follows == "text" and sort_at(ahead[ahead[i + 1] + 1]) == ":"):
+            elif follows == "}" or (follows in ("text", "template") and sort_at(ahead[ahead[i + 1] + 1]) == ":"):
                 word = "{object"
             else:
                 word = "{block"
@@ -61,6 +61,10 @@ def arrange(tokens):
             before_any = word
         if word in COUNTED:
             now.count += 1
+        if word == "template":
+            # As brackets in which two signs stand for each template.
+            stretches.append(Stretch(now))
+            stretches[-1].count = len(token.value) - 1
         if word in ("separator", ",", "else"):
             now = Stretch(now.outer)
             stretches.append(now)

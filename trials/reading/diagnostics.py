@@ -9,11 +9,11 @@ TITLES = {
     630: "fallible argument", 640: "no-op assignment", 650: "chained comparison", 651: "unnecessary error coalescing",
     652: "merge of a non-object", 660: "negation of a non-boolean", 701: "undefined variable", 1001: "float literal",
     1002: "number out of range", 1003: "operator left out", 1004: "return in a closure", 1005: "fallible predicate",
-    1006: "event assigned neither an object nor an array", 1007: "negative index written or deleted", 1008: "nested too deeply",
+    1006: "event assigned neither an object nor an array", 1008: "nested too deeply",
     1009: "script too long or not UTF-8", 1010: "closure missing, unexpected or of the wrong shape",
     1011: "abort message fallible or not a string", 1012: "written or deleted index too large or path too long",
     1013: "literal or path argument wanted", 1014: "malformed timestamp literal", 1015: "closure result of the wrong kind",
-    1016: "string template or too many regex literals", 1017: "metadata assigned no object",
+    1016: "malformed template or too many regex literals", 1017: "metadata assigned no object",
 }
 # The line of a diagnostic: its code, and the line and the column of its place.
 DIAGNOSTIC = re.compile(r"(?:error|warning)\[E([0-9]+)\] ([0-9]+):([0-9]+) ")

@@ -15,7 +15,7 @@ def productions():
         "item": ["target , target = single", "single"],
         "single": ["target = single", "target |= single", "return single", "abort", "abort single", "level0"],
         "level8": ["! level8", "primary"],
-        "primary": ["literal", "path", "name", "call", "plain suffix", "plain", "( item )", "( item ) suffix", "array",
+        "primary": ["literal", "template", "path", "name", "call", "plain suffix", "plain", "( item )", "( item ) suffix", "array",
                     "array suffix", "object", "block", "if1"],
         "literal": ["number", "text", "raw", "regex", "time", "true", "false", "null"],
         "plain": ["function ( )", "function ( args )", "function ( args , )"],

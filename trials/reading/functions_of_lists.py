@@ -1,21 +1,11 @@
 """Rows of the functions of arrays."""
 
 from reading.function_rows import Rows, array_of, by_tags, held, object_of, strings
-from reading.kinds import ABSENT, ANY, BOOLEAN, NEVER, STRING, join, make, own, parts, plus, rest_of
+from reading.kinds import ABSENT, ANY, BOOLEAN, NEVER, STRING, join, known_length, make, own, parts, plus, rest_of, sure
 from reading.values import Failed, flag, objects
 
 ROWS = Rows()
 row = ROWS.row
-
-
-def sure(kind):
-    """How many places from the front are sure."""
-    places = kind.array[0]
-    return next((i for i, one in enumerate(places) if ABSENT in one.tags), len(places))
-
-
-def length_known(kind):
-    return kind.array and kind.array[1] == "nothing" and sure(kind) == len(kind.array[0])
 
 
 def lengthened(kind, more):
@@ -28,14 +18,14 @@ def push_kind(given, _):
     kind, item = given["value"].kind, given["item"].kind
     if not kind.array:
         return NEVER
-    return make((), (list(kind.array[0]) + [item], "nothing")) if length_known(kind) else lengthened(kind, item)
+    return make((), (list(kind.array[0]) + [item], "nothing")) if known_length(kind) is not None else lengthened(kind, item)
 
 
 def append_kind(given, _):
     kind, items = given["value"].kind, given["items"].kind
     if not (kind.array and items.array):
         return NEVER
-    if length_known(kind) and length_known(items):
+    if known_length(kind) is not None and known_length(items) is not None:
         return make((), (list(kind.array[0]) + list(items.array[0]), "nothing"))
     return lengthened(kind, parts(items))
 

@@ -10,6 +10,21 @@ LEVEL_OF = {sign: number for number, signs in enumerate(LEVELS) for sign in sign
 VALUES = {"number": "integer", "text": "string", "raw": "string", "regex": "regex", "time": "timestamp"}
 
 
+def read_of(token):
+    """A path or a name where it is read."""
+    return Node("read", token.start, token.end, root=token.value, steps=token.steps)
+
+
+def sum_of(token):
+    """A text with templates, as a group of sums: each but for the variables has the span of the whole text."""
+    whole = lambda form, **parts: Node(form, token.start, token.end, **parts)
+    value = whole("literal", tag="string", value=token.value[0])
+    for part in token.value[1:]:
+        right = whole("literal", tag="string", value=part) if isinstance(part, str) else read_of(part)
+        value = whole("binary", op="+", left=value, right=right)
+    return whole("group", value=value)
+
+
 class Reader:
     """A plain descent. It takes a token only where some script goes on with it."""
 
@@ -100,9 +115,10 @@ class Reader:
             token = self.take(word)
             tag = "null" if word == "null" else "boolean"
             return Node("literal", token.start, token.end, tag=tag, value={"true": True, "false": False, "null": None}[word])
+        if word == "template":
+            return sum_of(self.take(word))
         if word in ("path", "name"):
-            token = self.take(word)
-            return Node("read", token.start, token.end, root=token.value, steps=token.steps)
+            return read_of(self.take(word))
         if word == "function":
             return self.call()
         if word == "[":
@@ -194,7 +210,7 @@ class Reader:
 
 
 def path_faults(items):
-    """1007 and 1012, on assigned paths and on arguments of `del` that are paths."""
+    """1012, on assigned paths and on arguments of `del` that are paths."""
     paths = []
     for node in walk(items):
         if node.form in ("assign", "merge"):
@@ -204,10 +220,7 @@ def path_faults(items):
         elif node.form == "call" and node.name == "del":
             paths += [(a.value.start, a.value.steps) for a in node.arguments if a.value.form == "read"]
     for start, steps in sorted(paths):
-        places = [step for step in steps if isinstance(step, int)]
-        if any(place < 0 for place in places):
-            raise Fault(1007, start)
-        if any(place > 65535 for place in places) or len(steps) > 128:
+        if any(isinstance(step, int) and not -65536 <= step <= 65535 for step in steps) or len(steps) > 128:
             raise Fault(1012, start)
 
 

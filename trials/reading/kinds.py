@@ -200,6 +200,18 @@ def parts(kind):
     return minus(joined, ABSENT)
 
 
+def sure(kind):
+    """How many places from the front are sure."""
+    places = kind.array[0]
+    return next((i for i, one in enumerate(places) if ABSENT in one.tags), len(places))
+
+
+def known_length(kind):
+    """The length of the arrays of a kind, None where it isn't known or the kind has none."""
+    known = kind.array and kind.array[1] == "nothing" and sure(kind) == len(kind.array[0])
+    return len(kind.array[0]) if known else None
+
+
 def to_null(kind):
     return plus(minus(kind, ABSENT), "null") if ABSENT in kind.tags else kind
 
@@ -223,6 +235,12 @@ def write(kind, path, new):
     if not path:
         return new
     step, behind = path[0], path[1:]
+    if isinstance(step, int) and step < 0:
+        length = known_length(kind) if exactly(kind, "array") else None
+        if length is None or length < -step:
+            inner = plus(parts(kind._replace(object=None)), "null")
+            return make((), ((), rest_of(join(inner, write(inner, behind, new)))))
+        step += length
     other = root_tags(kind) - {fit(step)}
     seen = lambda inner: plus(inner, ABSENT) if other else inner
     if isinstance(step, str):
@@ -244,6 +262,14 @@ def remove(kind, path):
     held = kind.object if isinstance(step, str) else kind.array
     if not held:
         return kind
+    if isinstance(step, int) and step < 0:
+        length = known_length(kind)
+        if length is None:
+            inner = parts(kind._replace(object=None))
+            return make(kind.tags, ((), rest_of(join(inner, remove(inner, behind)))), kind.object)
+        if length < -step:
+            return kind
+        step += length
     inner, rest = held
     if isinstance(step, str):
         fields = dict(inner)

@@ -22,9 +22,7 @@ def read(f, path, places):
         return f
     step = path[0]
     if isinstance(step, int) and step < 0:
-        def n(q):
-            found = frozenset().union(*(f((i,) + q) for i in places))
-            return found if q else found - {ABSENT} | {"null"}
+        n = every(f, places, {"null"})
     else:
         def n(q):
             found = f((step,) + q)
@@ -34,16 +32,42 @@ def read(f, path, places):
     return read(n, path[1:], places)
 
 
-def write(f, path, new):
+def length(f, places):
+    """The length of the arrays, None where it isn't known; the last of the places stands for all that no kind knows."""
+    known = next(i for i in places if i == places[-1] or ABSENT in f((i,)))
+    return known if all(f((i,)) == {ABSENT} for i in places[known:]) else None
+
+
+def every(f, places, more=()):
+    """The join of all places without absent, and of scalar tags beside it."""
+    def n(q):
+        found = frozenset().union(*(f((i,) + q) for i in places))
+        return found if q else found - {ABSENT} | set(more)
+    return n
+
+
+def list_of(f):
+    """The arrays of any length whose items are told by f, apart from the other tags."""
+    return lambda q: (f(q[1:]) | {ABSENT} if len(q) == 1 else f(q[1:])) if fit(q[0]) == "array" else set()
+
+
+def write(f, path, new, places):
     if not path:
         return new
     step, behind = path[0], path[1:]
+    if isinstance(step, int) and step < 0:
+        known = length(f, places) if f(()) == {"array"} else None
+        if known is None or known + step < 0:
+            inner = every(f, places, {"null"})
+            listed = list_of(join(inner, write(inner, behind, new, places)))
+            return lambda q: listed(q) if q else {"array"}
+        step += known
     held, other = fit(step) in f(()), f(()) - {fit(step)}
 
     def container(q):
         found = f(q) if held else ({ABSENT} if len(q) == 1 else set())
         return found | {ABSENT} if len(q) == 1 and other else found
-    inner = write(below(container, step), behind, new)
+    inner = write(below(container, step), behind, new, places)
 
     def result(q):
         if not q:
@@ -59,16 +83,25 @@ def write(f, path, new):
     return result
 
 
-def remove(f, path):
+def remove(f, path, places):
     if not path or fit(path[0]) not in f(()):
         return f
     step, behind = path[0], path[1:]
+    if isinstance(step, int) and step < 0:
+        known = length(f, places)
+        if known is None:
+            inner = every(f, places)
+            listed = list_of(join(inner, remove(inner, behind, places)))
+            return lambda q: listed(q) if q and fit(q[0]) == "array" else f(q)
+        if known + step < 0:
+            return f
+        step += known
 
     def result(q):
         if not q or fit(q[0]) != fit(step):
             return f(q)
         if behind:
-            return remove(below(f, step), behind)(q[1:]) if q[0] == step else f(q)
+            return remove(below(f, step), behind, places)(q[1:]) if q[0] == step else f(q)
         if isinstance(step, str):
             return f(q) if q[0] != step else {ABSENT} if len(q) == 1 else set()
         if q[0] < step:

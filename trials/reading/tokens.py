@@ -13,8 +13,9 @@ class Fault(Exception):
 
 
 class Token:
-    """sort: text raw regex time number name path suffix function, a keyword, a sign, or newline. The value of a name, and of a
-    path, is the root's: `.` for the event, `%` for the metadata, else the name."""
+    """sort: text template raw regex time number name path suffix function, a keyword, a sign, or newline. A template is a text with
+    templates; its value is a list of texts with names between them, as name tokens. The value of a name, and of a path, is the
+    root's: `.` for the event, `%` for the metadata, else the name."""
 
     def __init__(self, sort, start, end, value=None, steps=(), bang=False):
         self.sort, self.start, self.end, self.value, self.steps, self.bang = sort, start, end, value, steps, bang
@@ -24,7 +25,7 @@ class Token:
 
 
 KEYWORDS = {"if", "else", "abort", "return", "true", "false", "null"}
-ENDS_OPERAND = {"number", "text", "raw", "regex", "time", "name", "true", "false", "null", "path", "suffix", ")", "]", "}"}
+ENDS_OPERAND = {"number", "text", "template", "raw", "regex", "time", "name", "true", "false", "null", "path", "suffix", ")", "]", "}"}
 BINARY = {"??", "||", "&&", "==", "!=", "<", "<=", ">", ">=", "|", "+", "-", "*"}
 QUOTED = r'"(?:\\.|[^"\\])*"'
 FIELD = r'(?:[A-Za-z0-9_@]+|' + QUOTED + ")"
@@ -37,13 +38,15 @@ RE = {name: re.compile(spelling, re.S) for name, spelling in {
     "float": r"\.[0-9]|[eE][+-]?[0-9]",
     "letter": r"[A-Za-z_]",
     "name": r"[A-Za-z_][A-Za-z0-9_]*",
+    # A name between double braces, with blanks about it.
+    "template": r"\{\{[ \t\r]*(?P<name>[A-Za-z_][A-Za-z0-9_]*)[ \t\r]*\}\}",
     "segments": SEGMENT + "+",
     # The event or the metadata: the first segment behind the sign drops its own dot.
     "root": r"[.%](?:(?:" + FIELD + "|" + INDEX + ")" + SEGMENT + "*)?",
     "step": r"\.?(?:(?P<field>[A-Za-z0-9_@]+)|(?P<quoted>" + QUOTED + r")|\[(?P<index>-?[0-9]+)\])",
     "sign": r"\?\?=|->|==|!=|<=|>=|\|=|\|\||&&|\?\?|[=<>+\-*|!()\[\]{},:;/\n]",
 }.items()}
-ESCAPES = {"n": "\n", "r": "\r", "t": "\t", "\\": "\\", '"': '"', "'": "'", "0": "\0"}
+ESCAPES = {"n": "\n", "r": "\r", "t": "\t", "\\": "\\", '"': '"', "'": "'", "0": "\0", "{": "{"}
 
 
 def unescape(inside):
@@ -59,6 +62,28 @@ def unescape(inside):
             out.append(inside[i])
             i += 1
     return "".join(out)
+
+
+def text_token(text, start):
+    """A text from its opening quote on, without templates or with them. A bad escape comes before a bad template."""
+    found = RE["quoted"].match(text, start)
+    if not found or unescape(found[0][1:-1]) is None:
+        raise Fault(203, start)
+    end = found.end() - 1
+    parts, at, since = [], start + 1, start + 1
+    while at < end:
+        if text[at] == "\\":
+            at += 2
+        elif text.startswith("{{", at):
+            template = RE["template"].match(text, at, end)
+            if not template or template["name"] in KEYWORDS:
+                raise Fault(1016, start)
+            parts += [unescape(text[since:at]), Token("name", *template.span("name"), template["name"])]
+            at = since = template.end()
+        else:
+            at += 1
+    parts.append(unescape(text[since:end]))
+    return Token("text", start, end + 1, parts[0]) if len(parts) == 1 else Token("template", start, end + 1, parts)
 
 
 def small(number):
@@ -113,13 +138,7 @@ def next_token(text, at, before, regexes):
         if found:
             return Token("suffix", at, found.end(), None, steps_of(found[0], at))
     if here == '"':
-        found = RE["quoted"].match(text, at)
-        value = unescape(found[0][1:-1]) if found else None
-        if value is None:
-            raise Fault(203, at)
-        if "{{" in found[0]:
-            raise Fault(1016, at)
-        return Token("text", at, found.end(), value)
+        return text_token(text, at)
     if here in "srt" and after == "'":
         found = RE["raw"].match(text, at)
         if not found:

@@ -61,11 +61,14 @@ def put(value, steps, new):
         return new
     step, behind = steps[0], steps[1:]
     tag, held = value if value[0] == fit(step) else (fit(step), ())
-    inner = put(part((tag, held), step) or NULL, behind, new)
     if tag == "object":
+        inner = put(part((tag, held), step) or NULL, behind, new)
         return objects({**dict(held), step: inner})
+    if step < 0:
+        held = (NULL,) * (-step - len(held)) + held
+        step += len(held)
     held = held + (NULL,) * (step + 1 - len(held))
-    return "array", held[:step] + (inner,) + held[step + 1:]
+    return "array", held[:step] + (put(held[step], behind, new),) + held[step + 1:]
 
 
 def cut_out(value, steps):
@@ -79,6 +82,7 @@ def cut_out(value, steps):
         return put(value, steps[:1], cut_out(inner, steps[1:]))
     if tag == "object":
         return objects({name: one for name, one in held if name != step})
+    step += len(held) if step < 0 else 0
     return tag, held[:step] + held[step + 1:]
 
 

@@ -1,13 +1,18 @@
 -- What is answered at paths: trees that are set and removed.
-use Rattle.std.specs.Prelude.{◌≡◌, true, List, [], ◌∷◌, Option, Some, None, IfSome, refl}
+use Rattle.std.specs.Prelude.{◌≡◌, ℕ, zero, suc, ◌-◌, unsigned_abs, Bool, true, false, if◌then◌else◌, List, [], ◌∷◌, Option, Some, None, is_some, IfSome, refl}
+use Rattle.std.proofs.Common.{ap}
 use Rattle.vrl_value.specs.Look.{Step, field, place, Found, there, missing, no_place, found_if, item_at, part_at, IfThere}
 use Rattle.vrl_value.specs.Tag.{tag_of}
 use Rattle.vrl_value.specs.Tree.{Tree, string, integer, boolean, null, timestamp, regex, array, object, Items, Members, find, put}
-use Rattle.vrl_value.specs.Parts.{put_item, replace, replace_item}
+use Rattle.vrl_value.specs.Parts.{count_of, put_item, replace, replace_item}
+use Rattle.vrl_value.specs.declared.value.Tag.TheVariants as tag
 use Rattle.vrl_value.proofs.Order.{put_ordered, replace_ordered, without_ordered}
-use Rattle.vrl_path.specs.Parts.{replace_part, with_part, without_part}
-use Rattle.vrl_path.specs.Trees.{chain, if_there, plain_remove_tree, plain_set_tree}
-use Rattle.vrl_path.specs.Write.{items_in, members_in}
+use Rattle.vrl_path.specs.FromEnd.{behind_nulls, front_padded, part_behind, step_in}
+use Rattle.vrl_path.specs.Parts.{items_in, members_in, placed, replace_part, set_part, tree_or_null, with_part, without_part}
+use Rattle.vrl_path.specs.Read.{item_if, place_of, signed_part_at}
+use Rattle.vrl_path.specs.Trees.{if_there, remove_tree, set_tree}
+use Rattle.vrl_path.specs.declared.path.Step.{Step as CodeStep}
+use Rattle.vrl_path.specs.declared.path.Step.TheVariants.{Field, Place}
 use Rattle.vrl_builtin.specs.TagSets.{allows, containers}
 use Rattle.vrl_builtin.proofs.AnswerParts.{array_part, everything, item_parts, member_parts, object_part, AreParts, IsPart}
 use Rattle.vrl_builtin.proofs.Containers.{each_at, each_found, each_put, plain_part, EachItem}
@@ -89,11 +94,56 @@ part_is arguments t s part = tt
 
 -- ---- trees that are set and removed
 
-chain_is : (arguments : List (Option Tree)) (p : List Step) (n : Tree) → IsPart arguments n
-    → IsPart arguments (chain p n)
-chain_is arguments [] n new = new
-chain_is arguments (s ∷ p) n new =
-    with_is arguments s (chain p n) null (chain_is arguments p n new) (null_part arguments)
+placed_is : (arguments : List (Option Tree)) (F : Found) (s : Step) (t u : Tree) → IsPart arguments t
+    → IsPart arguments u → IsPart arguments (placed F s t u)
+placed_is arguments (there old) s t u new part = replaced_is arguments s t u new part
+placed_is arguments missing s t u new part = with_is arguments s t u new part
+placed_is arguments no_place s t u new part = with_is arguments s t u new part
+
+each_null : (arguments : List (Option Tree)) (k : ℕ) (ts : Items) → EachItem (IsPart arguments) ts
+    → EachItem (IsPart arguments) (behind_nulls k ts)
+each_null arguments zero ts each = each
+each_null arguments (suc k) ts each = (null_part arguments, each_null arguments k ts each)
+
+padded_if : (arguments : List (Option Tree)) (b : Bool) (k : ℕ) (t : Tree) → IsPart arguments t
+    → IsPart arguments (if b then t else array (behind_nulls k (items_in (there t))))
+padded_if arguments true k t old = old
+padded_if arguments false k t old = array_part arguments _
+    (each_null arguments k (items_in (there t)) (items_are arguments t old))
+
+padded_is : (arguments : List (Option Tree)) (t : Tree) (s : CodeStep) → IsPart arguments t
+    → IsPart arguments (front_padded t s)
+padded_is arguments t (Field k) old = old
+padded_is arguments t (Place i) old =
+    let count = count_of (items_in (there t)) in
+    padded_if arguments (is_some (place_of count i)) (unsigned_abs i - count) t old
+
+found_or_null : (arguments : List (Option Tree)) (F : Found) → IfThere F (IsPart arguments)
+    → IsPart arguments (tree_or_null F)
+found_or_null arguments (there t) is = is
+found_or_null arguments missing is = null_part arguments
+found_or_null arguments no_place is = null_part arguments
+
+pub set_is : (arguments : List (Option Tree)) (t : Tree) (p : List CodeStep) (n : Tree) → IsPart arguments t
+    → IsPart arguments n → IsPart arguments (set_tree t p n)
+set_is arguments t [] n old new = new
+set_is arguments t (s ∷ p) n old new =
+    let u = front_padded t s in
+    let whole = padded_is arguments t s old in
+    let part = found_or_null arguments (part_at u (step_in t s)) (part_is arguments u (step_in t s) whole) in
+    placed_is arguments (part_at u (step_in t s)) (step_in t s) (set_tree (part_behind t s) p n) u
+    (set_is arguments (part_behind t s) p n part new) whole
+
+item_is : (arguments : List (Option Tree)) (o : Option ℕ) (ts : Items) → IsPart arguments (array ts)
+    → IfThere (item_if o ts) (IsPart arguments)
+item_is arguments None ts part = tt
+item_is arguments (Some i) ts part = part_is arguments (array ts) (place i) part
+
+signed_is : (arguments : List (Option Tree)) (t : Tree) (s : CodeStep) → IsPart arguments t
+    → IfThere (signed_part_at t s) (IsPart arguments)
+signed_is arguments (object ms) (Field k) part = part_is arguments (object ms) (field k) part
+signed_is arguments (array ts) (Place i) part = item_is arguments (place_of (count_of ts) i) ts part
+signed_is arguments t s part = tt
 
 if_found : (arguments : List (Option Tree)) (F : Found) (f : Tree → Tree) (w : Tree) → IfThere F (IsPart arguments)
     → ((u : Tree) → IsPart arguments u → IsPart arguments (f u)) → IsPart arguments w
@@ -102,45 +152,46 @@ if_found arguments (there u) f w found so other = so u found
 if_found arguments missing f w found so other = other
 if_found arguments no_place f w found so other = other
 
-pub set_is : (arguments : List (Option Tree)) (t : Tree) (p : List Step) (n : Tree) → IsPart arguments t
-    → IsPart arguments n → IsPart arguments (plain_set_tree t p n)
-set_is arguments t [] n old new = new
-set_is arguments t (s ∷ p) n old new =
-    if_found arguments (part_at t s) (λ u. replace_part s (plain_set_tree u p n) t) (with_part s (chain p n) t)
-    (part_is arguments t s old)
-    (λ u part. replaced_is arguments s (plain_set_tree u p n) t (set_is arguments u p n part new) old)
-    (with_is arguments s (chain p n) t (chain_is arguments p n new) old)
-
-pub removed_is : (arguments : List (Option Tree)) (t : Tree) (p : List Step) → IsPart arguments t
-    → IsPart arguments (plain_remove_tree t p)
+pub removed_is : (arguments : List (Option Tree)) (t : Tree) (p : List CodeStep) → IsPart arguments t
+    → IsPart arguments (remove_tree t p)
 removed_is arguments t [] old = old
-removed_is arguments t (s ∷ []) old = without_is arguments s t old
+removed_is arguments t (s ∷ []) old =
+    if_found arguments (signed_part_at t s) (λ u. without_part (step_in t s) t) t (signed_is arguments t s old)
+    (λ u part. without_is arguments (step_in t s) t old) old
 removed_is arguments t (s ∷ r ∷ p) old =
-    if_found arguments (part_at t s) (λ u. replace_part s (plain_remove_tree u (r ∷ p)) t) t
-    (part_is arguments t s old)
-    (λ u part. replaced_is arguments s (plain_remove_tree u (r ∷ p)) t
+    if_found arguments (signed_part_at t s) (λ u. replace_part (step_in t s) (remove_tree u (r ∷ p)) t) t
+    (signed_is arguments t s old)
+    (λ u part. replaced_is arguments (step_in t s) (remove_tree u (r ∷ p)) t
     (removed_is arguments u (r ∷ p) part) old) old
 
 -- ---- their tags
 
-by_member : (o : Option Tree) (f : Tree → Members) (ms : Members)
-    → allows containers (tag_of (if_there (found_if o) (λ u. object (f u)) (object ms))) ≡ true
-by_member None f ms = refl
-by_member (Some u) f ms = refl
+by_member : (o : Option Tree) (k : List ℕ) (t : Tree) (ms : Members)
+    → tag_of (placed (found_if o) (field k) t (object ms)) ≡ tag.Object
+by_member None k t ms = refl
+by_member (Some u) k t ms = refl
 
-by_item : (o : Option Tree) (f : Tree → Items) (ts : Items)
-    → allows containers (tag_of (if_there (found_if o) (λ u. array (f u)) (array ts))) ≡ true
-by_item None f ts = refl
-by_item (Some u) f ts = refl
+by_item : (o : Option Tree) (i : ℕ) (t : Tree) (ts : Items)
+    → tag_of (placed (found_if o) (place i) t (array ts)) ≡ tag.List
+by_item None i t ts = refl
+by_item (Some u) i t ts = refl
 
-pub set_tag : (t : Tree) (s : Step) (p : List Step) (n : Tree)
-    → allows containers (tag_of (plain_set_tree t (s ∷ p) n)) ≡ true
-set_tag (object ms) (field k) p n =
-    by_member (find k ms) (λ u. replace k (plain_set_tree u p n) ms) (put k (chain p n) ms)
-set_tag (array ts) (place i) p n =
-    by_item (item_at i ts) (λ u. replace_item i (plain_set_tree u p n) ts) (put_item i (chain p n) ts)
-set_tag t (field k) p n = refl
-set_tag t (place i) p n = refl
+-- what has a field set is an object
+pub field_tag : (k : List ℕ) (t u : Tree) → tag_of (set_part (field k) t u) ≡ tag.Object
+field_tag k t (object ms) = by_member (find k ms) k t ms
+field_tag k t u = refl
+
+place_tag : (i : ℕ) (t u : Tree) → tag_of (set_part (place i) t u) ≡ tag.List
+place_tag i t (array ts) = by_item (item_at i ts) i t ts
+place_tag i t u = refl
+
+part_tag : (s : Step) (t u : Tree) → allows containers (tag_of (set_part s t u)) ≡ true
+part_tag (field k) t u = ap (allows containers) (field_tag k t u)
+part_tag (place i) t u = ap (allows containers) (place_tag i t u)
+
+pub set_tag : (t : Tree) (s : CodeStep) (p : List CodeStep) (n : Tree)
+    → allows containers (tag_of (set_tree t (s ∷ p) n)) ≡ true
+set_tag t s p n = part_tag (step_in t s) (set_tree (part_behind t s) p n) (front_padded t s)
 
 replaced_tag : (s : Step) (t u : Tree) → tag_of (replace_part s t u) ≡ tag_of u
 replaced_tag (field k) t (object ms) = refl
@@ -158,8 +209,10 @@ found_tag (there u) f t same = same u
 found_tag missing f t same = refl
 found_tag no_place f t same = refl
 
-pub removed_tag : (t : Tree) (p : List Step) → tag_of (plain_remove_tree t p) ≡ tag_of t
+pub removed_tag : (t : Tree) (p : List CodeStep) → tag_of (remove_tree t p) ≡ tag_of t
 removed_tag t [] = refl
-removed_tag t (s ∷ []) = without_tag s t
-removed_tag t (s ∷ r ∷ p) = found_tag (part_at t s) (λ u. replace_part s (plain_remove_tree u (r ∷ p)) t) t
-    (λ u. replaced_tag s (plain_remove_tree u (r ∷ p)) t)
+removed_tag t (s ∷ []) = found_tag (signed_part_at t s) (λ u. without_part (step_in t s) t) t
+    (λ u. without_tag (step_in t s) t)
+removed_tag t (s ∷ r ∷ p) = found_tag (signed_part_at t s)
+    (λ u. replace_part (step_in t s) (remove_tree u (r ∷ p)) t) t
+    (λ u. replaced_tag (step_in t s) (remove_tree u (r ∷ p)) t)

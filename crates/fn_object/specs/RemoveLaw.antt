@@ -5,7 +5,6 @@ use Rattle.vrl_value.specs.Tag.{tag_of}
 use Rattle.vrl_value.specs.Tree.{Tree, null, IsOrdered}
 use Rattle.vrl_value.specs.declared.value.Tag.{Tag}
 use Rattle.vrl_kind.specs.KindTree.{KindTree}
-use Rattle.vrl_path.specs.Steps.{plain}
 use Rattle.vrl_path.specs.Trees.{remove_tree}
 use Rattle.vrl_path.specs.declared.path.Step.{Step}
 use Rattle.vrl_builtin.specs.Law.{KeepsLaw, IsLawful, IsOfGiven}
@@ -30,7 +29,7 @@ removed_lawful K None (Some words) arguments v p allowed part = refl
 removed_lawful K None None arguments v p allowed part =
     answered (any_of (containers_in K)) true arguments (remove_tree v p)
     (loosely_allowed (containers_in K) (remove_tree v p)
-    (ap (allows (containers_in K)) (removed_tag v (plain p)) ∙ allowed)) (removed_is arguments v (plain p) part)
+    (ap (allows (containers_in K)) (removed_tag v p) ∙ allowed)) (removed_is arguments v p part)
 
 pub remove-law : KeepsLaw remove_row
 remove-law = record {

@@ -2,7 +2,6 @@
 use Rattle.std.specs.Prelude.{◌≡◌, ℕ, true, List, [], ◌∷◌, Option, Some, None, codes, IfSome, refl}
 use Rattle.vrl_value.specs.Tree.{Tree, null, array, IsOrdered}
 use Rattle.vrl_value.specs.declared.value.Tag.{Tag}
-use Rattle.vrl_path.specs.Steps.{plain, plain_step}
 use Rattle.vrl_path.specs.Trees.{set_tree}
 use Rattle.vrl_path.specs.declared.path.Step.{Step}
 use Rattle.vrl_builtin.specs.Law.{KeepsLaw, IsLawful}
@@ -25,8 +24,8 @@ set_on (Some other) words arguments v s p n old new = refl
 set_on None (Some words) arguments v s p n old new = refl
 set_on None None arguments v s p n old new =
     answered (any_of containers) true arguments (set_tree v (s ∷ p) n)
-    (loosely_allowed containers (set_tree v (s ∷ p) n) (set_tag v (plain_step s) (plain p) n))
-    (set_is arguments v (plain (s ∷ p)) n old new)
+    (loosely_allowed containers (set_tree v (s ∷ p) n) (set_tag v s p n))
+    (set_is arguments v (s ∷ p) n old new)
 
 set_lawful : (o : Option (ℕ × Tag)) (arguments : List (Option Tree)) (v : Tree) (p : List Step) (n : Tree)
     → IsPart arguments v → IsPart arguments n →

@@ -1,4 +1,4 @@
-ghost use Rattle.std.specs.Prelude.{◌≡◌, codes, map, IfOk, None};
+ghost use Rattle.std.specs.Prelude.{◌≡◌, codes, map, IfOk};
 ghost use Rattle.vrl_value.specs.View.{tree_of};
 ghost use Rattle.vrl_path.specs.Trees.{remove_tree};
 ghost use Rattle.vrl_builtin.specs.Rows.{named, value_at};
@@ -33,7 +33,6 @@ static PARAMETERS: [Parameter; 2] = [
 
 // The value without what stands at a path.
 fn take_out(value: Value, path: &Path) -> Value
-    requires { removal_fault path.now ≡ None }
     ensures { tree_of result ≡ remove_tree (tree_of value) path.now }
 {
     let mut changed = value;
@@ -43,7 +42,6 @@ fn take_out(value: Value, path: &Path) -> Value
 
 // A copy of a value without what stands at the path of the elements.
 fn without(alloc: Global, value: &Value, elements: &[Value]) -> Result<Value, Memory>
-    requires { removal_fault (steps_of (map tree_of elements.now)) ≡ None }
     ensures { IfOk result
         (λ changed. tree_of changed ≡ remove_tree (tree_of value.now) (steps_of (map tree_of elements.now))) }
 {

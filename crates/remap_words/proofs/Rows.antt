@@ -4,6 +4,7 @@ use Rattle.std.specs.Prelude.{⊤}
 use Rattle.std.specs.List.{find}
 use Rattle.std.specs.Option.{option_map}
 use Rattle.std.specs.Str.{bytes_eq}
+use Rattle.std.proofs.lemmas.Slice.Eq.{bytes_eq-Decides}
 use Rattle.clap.specs.Faults.{use_fault}
 use Rattle.clap.specs.Kinds.{Kinds, or_else}
 use Rattle.clap.specs.Walk.{Row, Rule, Text, at_row, has_row, more_values, used, with_values, without}
@@ -149,162 +150,106 @@ at_unless : (position : ℕ) (twice : Bool) (g : Settings) → At position (Some
 at_unless position true g at = tt
 at_unless position false g at = at
 
--- ---- what each use changes
+-- ---- what a use changes
 
-script_shown : (value : Text) (rows : List Row) (g : Settings) → Shows rows g → has_row (codes "script") rows ≡ false
-    → Shows (rows ++ value_row (codes "script") value ∷ []) (record g { script = Some value })
-script_shown value rows g s none = record {
-  script = row_added (codes "script") _ rows refl none;
-  kind = row_elsewhere (codes "kind") _ rows refl ∙ s.kind;
-  jobs = row_elsewhere (codes "jobs") _ rows refl ∙ s.jobs;
-  generate = row_elsewhere (codes "generate") _ rows refl ∙ s.generate;
-  drop_on_error = row_elsewhere (codes "drop-on-error") _ rows refl ∙ s.drop_on_error;
-  keep_on_abort = row_elsewhere (codes "keep-on-abort") _ rows refl ∙ s.keep_on_abort;
-  envelope = row_elsewhere (codes "envelope") _ rows refl ∙ s.envelope;
-  check = row_elsewhere (codes "check") _ rows refl ∙ s.check;
+-- the rows that settings stand for, each behind its name
+abbrev entries : Settings → List (Text × Option Row)
+entries g =
+    (codes "script", option_map (value_row (codes "script")) g.script)
+    ∷ (codes "kind", option_map (value_row (codes "kind")) g.kind)
+    ∷ (codes "jobs", option_map (value_row (codes "jobs")) g.jobs)
+    ∷ (codes "generate", option_map (value_row (codes "generate")) g.generate)
+    ∷ (codes "drop-on-error", flag_row (codes "drop-on-error") g.drop_on_error)
+    ∷ (codes "keep-on-abort", flag_row (codes "keep-on-abort") g.keep_on_abort)
+    ∷ (codes "envelope", flag_row (codes "envelope") g.envelope)
+    ∷ (codes "check", flag_row (codes "check") g.check)
+    ∷ []
+
+abbrev AreShown : List Row → List (Text × Option Row) → Type 0
+AreShown rows [] = ⊤
+AreShown rows (e ∷ es) = (row_at e.0 rows ≡ e.1) × AreShown rows es
+
+abbrev with_row : Row → List (Text × Option Row) → List (Text × Option Row)
+with_row r [] = []
+with_row r (e ∷ es) = (e.0, cond (bytes_eq r.id e.0) (Some r) e.1) ∷ with_row r es
+
+all_shown : (r : Row) (rows : List Row) (es : List (Text × Option Row)) → has_row r.id rows ≡ false → AreShown rows es → AreShown (rows ++ r ∷ []) (with_row r es)
+all_shown r rows [] none shown = tt
+all_shown r rows (e ∷ es) none shown = (go (bytes_eq r.id e.0) refl, all_shown r rows es none shown.1)
+  where
+    go : (b : Bool) → bytes_eq r.id e.0 ≡ b → row_at e.0 (rows ++ r ∷ []) ≡ cond b (Some r) e.1
+    go true same = row_added e.0 r rows same (subst (λ id. has_row id rows ≡ false) ((bytes_eq-Decides r.id e.0).0 same) none)
+    go false other = row_elsewhere e.0 r rows other ∙ shown.0
+
+listed : (rows : List Row) (g : Settings) → Shows rows g → AreShown rows (entries g)
+listed rows g s = (s.script, (s.kind, (s.jobs, (s.generate, (s.drop_on_error, (s.keep_on_abort, (s.envelope, (s.check, tt))))))))
+
+shown_by : (rows : List Row) (g : Settings) → AreShown rows (entries g) → Shows rows g
+shown_by rows g (script, (kind, (jobs, (generate, (drop_on_error, (keep_on_abort, (envelope, (check, all)))))))) = record {
+  script = script;
+  kind = kind;
+  jobs = jobs;
+  generate = generate;
+  drop_on_error = drop_on_error;
+  keep_on_abort = keep_on_abort;
+  envelope = envelope;
+  check = check;
 }
 
-kind_shown : (value : Text) (rows : List Row) (g : Settings) → Shows rows g → has_row (codes "kind") rows ≡ false
-    → Shows (rows ++ value_row (codes "kind") value ∷ []) (record g { kind = Some value })
-kind_shown value rows g s none = record {
-  script = row_elsewhere (codes "script") _ rows refl ∙ s.script;
-  kind = row_added (codes "kind") _ rows refl none;
-  jobs = row_elsewhere (codes "jobs") _ rows refl ∙ s.jobs;
-  generate = row_elsewhere (codes "generate") _ rows refl ∙ s.generate;
-  drop_on_error = row_elsewhere (codes "drop-on-error") _ rows refl ∙ s.drop_on_error;
-  keep_on_abort = row_elsewhere (codes "keep-on-abort") _ rows refl ∙ s.keep_on_abort;
-  envelope = row_elsewhere (codes "envelope") _ rows refl ∙ s.envelope;
-  check = row_elsewhere (codes "check") _ rows refl ∙ s.check;
-}
-
-jobs_shown : (value : Text) (rows : List Row) (g : Settings) → Shows rows g → has_row (codes "jobs") rows ≡ false
-    → Shows (rows ++ value_row (codes "jobs") value ∷ []) (record g { jobs = Some value })
-jobs_shown value rows g s none = record {
-  script = row_elsewhere (codes "script") _ rows refl ∙ s.script;
-  kind = row_elsewhere (codes "kind") _ rows refl ∙ s.kind;
-  jobs = row_added (codes "jobs") _ rows refl none;
-  generate = row_elsewhere (codes "generate") _ rows refl ∙ s.generate;
-  drop_on_error = row_elsewhere (codes "drop-on-error") _ rows refl ∙ s.drop_on_error;
-  keep_on_abort = row_elsewhere (codes "keep-on-abort") _ rows refl ∙ s.keep_on_abort;
-  envelope = row_elsewhere (codes "envelope") _ rows refl ∙ s.envelope;
-  check = row_elsewhere (codes "check") _ rows refl ∙ s.check;
-}
-
-generate_shown : (value : Text) (rows : List Row) (g : Settings) → Shows rows g → has_row (codes "generate") rows ≡ false
-    → Shows (rows ++ value_row (codes "generate") value ∷ []) (record g { generate = Some value })
-generate_shown value rows g s none = record {
-  script = row_elsewhere (codes "script") _ rows refl ∙ s.script;
-  kind = row_elsewhere (codes "kind") _ rows refl ∙ s.kind;
-  jobs = row_elsewhere (codes "jobs") _ rows refl ∙ s.jobs;
-  generate = row_added (codes "generate") _ rows refl none;
-  drop_on_error = row_elsewhere (codes "drop-on-error") _ rows refl ∙ s.drop_on_error;
-  keep_on_abort = row_elsewhere (codes "keep-on-abort") _ rows refl ∙ s.keep_on_abort;
-  envelope = row_elsewhere (codes "envelope") _ rows refl ∙ s.envelope;
-  check = row_elsewhere (codes "check") _ rows refl ∙ s.check;
-}
-
-drop_on_error_shown : (rows : List Row) (g : Settings) → Shows rows g → has_row (codes "drop-on-error") rows ≡ false
-    → Shows (rows ++ value_row (codes "drop-on-error") (codes "true") ∷ []) (record g { drop_on_error = true })
-drop_on_error_shown rows g s none = record {
-  script = row_elsewhere (codes "script") _ rows refl ∙ s.script;
-  kind = row_elsewhere (codes "kind") _ rows refl ∙ s.kind;
-  jobs = row_elsewhere (codes "jobs") _ rows refl ∙ s.jobs;
-  generate = row_elsewhere (codes "generate") _ rows refl ∙ s.generate;
-  drop_on_error = row_added (codes "drop-on-error") _ rows refl none;
-  keep_on_abort = row_elsewhere (codes "keep-on-abort") _ rows refl ∙ s.keep_on_abort;
-  envelope = row_elsewhere (codes "envelope") _ rows refl ∙ s.envelope;
-  check = row_elsewhere (codes "check") _ rows refl ∙ s.check;
-}
-
-keep_on_abort_shown : (rows : List Row) (g : Settings) → Shows rows g → has_row (codes "keep-on-abort") rows ≡ false
-    → Shows (rows ++ value_row (codes "keep-on-abort") (codes "true") ∷ []) (record g { keep_on_abort = true })
-keep_on_abort_shown rows g s none = record {
-  script = row_elsewhere (codes "script") _ rows refl ∙ s.script;
-  kind = row_elsewhere (codes "kind") _ rows refl ∙ s.kind;
-  jobs = row_elsewhere (codes "jobs") _ rows refl ∙ s.jobs;
-  generate = row_elsewhere (codes "generate") _ rows refl ∙ s.generate;
-  drop_on_error = row_elsewhere (codes "drop-on-error") _ rows refl ∙ s.drop_on_error;
-  keep_on_abort = row_added (codes "keep-on-abort") _ rows refl none;
-  envelope = row_elsewhere (codes "envelope") _ rows refl ∙ s.envelope;
-  check = row_elsewhere (codes "check") _ rows refl ∙ s.check;
-}
-
-envelope_shown : (rows : List Row) (g : Settings) → Shows rows g → has_row (codes "envelope") rows ≡ false
-    → Shows (rows ++ value_row (codes "envelope") (codes "true") ∷ []) (record g { envelope = true })
-envelope_shown rows g s none = record {
-  script = row_elsewhere (codes "script") _ rows refl ∙ s.script;
-  kind = row_elsewhere (codes "kind") _ rows refl ∙ s.kind;
-  jobs = row_elsewhere (codes "jobs") _ rows refl ∙ s.jobs;
-  generate = row_elsewhere (codes "generate") _ rows refl ∙ s.generate;
-  drop_on_error = row_elsewhere (codes "drop-on-error") _ rows refl ∙ s.drop_on_error;
-  keep_on_abort = row_elsewhere (codes "keep-on-abort") _ rows refl ∙ s.keep_on_abort;
-  envelope = row_added (codes "envelope") _ rows refl none;
-  check = row_elsewhere (codes "check") _ rows refl ∙ s.check;
-}
-
-check_shown : (rows : List Row) (g : Settings) → Shows rows g → has_row (codes "check") rows ≡ false
-    → Shows (rows ++ value_row (codes "check") (codes "true") ∷ []) (record g { check = true })
-check_shown rows g s none = record {
-  script = row_elsewhere (codes "script") _ rows refl ∙ s.script;
-  kind = row_elsewhere (codes "kind") _ rows refl ∙ s.kind;
-  jobs = row_elsewhere (codes "jobs") _ rows refl ∙ s.jobs;
-  generate = row_elsewhere (codes "generate") _ rows refl ∙ s.generate;
-  drop_on_error = row_elsewhere (codes "drop-on-error") _ rows refl ∙ s.drop_on_error;
-  keep_on_abort = row_elsewhere (codes "keep-on-abort") _ rows refl ∙ s.keep_on_abort;
-  envelope = row_elsewhere (codes "envelope") _ rows refl ∙ s.envelope;
-  check = row_added (codes "check") _ rows refl none;
-}
+-- settings that have one more row are shown with it
+shown_with : (r : Row) (rows : List Row) (g h : Settings) → with_row r (entries g) ≡ entries h → Shows rows g → has_row r.id rows ≡ false → Shows (rows ++ r ∷ []) h
+shown_with r rows g h is s none = shown_by (rows ++ r ∷ []) h (subst (λ es. AreShown (rows ++ r ∷ []) es) is (all_shown r rows (entries g) none (listed rows g s)))
 
 pub script_made : (value : Text) (rows : List Row) (g : Settings) → Shows rows g
     → Made (use_fault false built_script (value ∷ []) rows) (used built_script (value ∷ []) rows) (with_use (one.script value) g)
 script_made value rows g s = made_once (codes "script") value rows _ _ (is_some g.script) (record g { script = Some value })
-    (script_faults value rows) refl (has_value (codes "script") rows g.script s.script) (script_shown value rows g s)
+    (script_faults value rows) refl (has_value (codes "script") rows g.script s.script) (shown_with (value_row (codes "script") value) rows g _ refl s)
 
 pub kind_use : (value : Text) → IsUse (built_option (codes "kind")) (value ∷ []) (one.kind value)
 kind_use value = record {
   made = λ rows g s. made_once (codes "kind") value rows _ _ (is_some g.kind) (record g { kind = Some value })
-      (value_faults (codes "kind") value rows) refl (has_value (codes "kind") rows g.kind s.kind) (kind_shown value rows g s);
+      (value_faults (codes "kind") value rows) refl (has_value (codes "kind") rows g.kind s.kind) (shown_with (value_row (codes "kind") value) rows g _ refl s);
   place = λ position g at. at_unless position (is_some g.kind) (record g { kind = Some value }) at;
 }
 
 pub jobs_use : (value : Text) → IsUse (built_option (codes "jobs")) (value ∷ []) (one.jobs value)
 jobs_use value = record {
   made = λ rows g s. made_once (codes "jobs") value rows _ _ (is_some g.jobs) (record g { jobs = Some value })
-      (value_faults (codes "jobs") value rows) refl (has_value (codes "jobs") rows g.jobs s.jobs) (jobs_shown value rows g s);
+      (value_faults (codes "jobs") value rows) refl (has_value (codes "jobs") rows g.jobs s.jobs) (shown_with (value_row (codes "jobs") value) rows g _ refl s);
   place = λ position g at. at_unless position (is_some g.jobs) (record g { jobs = Some value }) at;
 }
 
 pub generate_use : (value : Text) → IsUse (built_option (codes "generate")) (value ∷ []) (one.generate value)
 generate_use value = record {
   made = λ rows g s. made_once (codes "generate") value rows _ _ (is_some g.generate) (record g { generate = Some value })
-      (value_faults (codes "generate") value rows) refl (has_value (codes "generate") rows g.generate s.generate) (generate_shown value rows g s);
+      (value_faults (codes "generate") value rows) refl (has_value (codes "generate") rows g.generate s.generate) (shown_with (value_row (codes "generate") value) rows g _ refl s);
   place = λ position g at. at_unless position (is_some g.generate) (record g { generate = Some value }) at;
 }
 
 pub drop_on_error_use : IsUse (built_flag (codes "drop-on-error")) [] one.drop_on_error
 drop_on_error_use = record {
   made = λ rows g s. made_once (codes "drop-on-error") (codes "true") rows _ _ (g.drop_on_error) (record g { drop_on_error = true })
-      (flag_faults (codes "drop-on-error") rows) refl (has_flag (codes "drop-on-error") rows g.drop_on_error s.drop_on_error) (drop_on_error_shown rows g s);
+      (flag_faults (codes "drop-on-error") rows) refl (has_flag (codes "drop-on-error") rows g.drop_on_error s.drop_on_error) (shown_with (value_row (codes "drop-on-error") (codes "true")) rows g _ refl s);
   place = λ position g at. at_unless position (g.drop_on_error) (record g { drop_on_error = true }) at;
 }
 
 pub keep_on_abort_use : IsUse (built_flag (codes "keep-on-abort")) [] one.keep_on_abort
 keep_on_abort_use = record {
   made = λ rows g s. made_once (codes "keep-on-abort") (codes "true") rows _ _ (g.keep_on_abort) (record g { keep_on_abort = true })
-      (flag_faults (codes "keep-on-abort") rows) refl (has_flag (codes "keep-on-abort") rows g.keep_on_abort s.keep_on_abort) (keep_on_abort_shown rows g s);
+      (flag_faults (codes "keep-on-abort") rows) refl (has_flag (codes "keep-on-abort") rows g.keep_on_abort s.keep_on_abort) (shown_with (value_row (codes "keep-on-abort") (codes "true")) rows g _ refl s);
   place = λ position g at. at_unless position (g.keep_on_abort) (record g { keep_on_abort = true }) at;
 }
 
 pub envelope_use : IsUse (built_flag (codes "envelope")) [] one.envelope
 envelope_use = record {
   made = λ rows g s. made_once (codes "envelope") (codes "true") rows _ _ (g.envelope) (record g { envelope = true })
-      (flag_faults (codes "envelope") rows) refl (has_flag (codes "envelope") rows g.envelope s.envelope) (envelope_shown rows g s);
+      (flag_faults (codes "envelope") rows) refl (has_flag (codes "envelope") rows g.envelope s.envelope) (shown_with (value_row (codes "envelope") (codes "true")) rows g _ refl s);
   place = λ position g at. at_unless position (g.envelope) (record g { envelope = true }) at;
 }
 
 pub check_use : IsUse (built_flag (codes "check")) [] one.check
 check_use = record {
   made = λ rows g s. made_once (codes "check") (codes "true") rows _ _ (g.check) (record g { check = true })
-      (flag_faults (codes "check") rows) refl (has_flag (codes "check") rows g.check s.check) (check_shown rows g s);
+      (flag_faults (codes "check") rows) refl (has_flag (codes "check") rows g.check s.check) (shown_with (value_row (codes "check") (codes "true")) rows g _ refl s);
   place = λ position g at. at_unless position (g.check) (record g { check = true }) at;
 }

@@ -1,9 +1,10 @@
 // The scripts of texts, and the places where no script goes on.
+use std::alloc::Global;
 use std::process::Abort;
 use vrl_parse::parse;
-use vrl_syntax::{Expr, Form, Op, Script};
+use vrl_syntax::{Expr, Form, Op, Root, Script};
 use vrl_token::{SyntaxFault, tokens};
-use vrl_value::Memory;
+use vrl_value::{Memory, Value};
 
 // A letter for each form of an expression, and the sign of an operator.
 fn letter(expr: &Expr) -> char {
@@ -122,7 +123,7 @@ fn expect_faults(rt: &(impl Abort + AllocGlobal), rows: &[(&str, u16, u32)]) {
     }
 }
 
-const SCRIPTS: [(&str, &str, u32, u32); 25] = [
+const SCRIPTS: [(&str, &str, u32, u32); 36] = [
     ("", "", 0, 0),
     (".x = 1; .y = 2", "=l =l ", 0, 6),
     (".x = 1\n.y = 2", "=l =l ", 0, 6),
@@ -147,6 +148,17 @@ const SCRIPTS: [(&str, &str, u32, u32); 25] = [
     ("abort; abort \"a\"", "A A ", 0, 5),
     ("if a { b } else if c { d } else { e }", "i ", 0, 37),
     ("{ a; b }", "b ", 0, 8),
+    (".a[-65536] = del(.b[-1])", "=c ", 0, 24),
+    ("\"a{{ n }}c\"", "g+ ", 0, 11),
+    ("\"{{ a }}{{ b }}\"", "g+ ", 0, 16),
+    ("\"{{ a }}\" + \"b\"", "+gl ", 0, 15),
+    ("f(\"{{ a }}\", x: \"b{{ c }}d\")", "c ", 0, 28),
+    ("[\"{{ a }}\", \"b\"]", "a ", 0, 16),
+    ("{ \"a\": \"{{ b }}\" }", "o ", 0, 18),
+    ("if \"{{ a }}\" == b { c }", "i ", 0, 23),
+    ("abort \"a{{ n }}\"", "A ", 0, 16),
+    (".x = \"{{ a }}\"", "=g ", 0, 14),
+    ("!\"{{ a }}\"", "!g ", 0, 10),
     (
         "((((((((((((((((((((((((((((((((((((((((((((((((((((((((((((((((1))))))))))))))))))))))))))))))))))))))))))))))))))))))))))))))))",
         "gg ",
@@ -160,7 +172,71 @@ fn scripts_of_texts(rt: HostRuntime) -> Result<(), Memory> {
     expect_scripts(&rt, &SCRIPTS)
 }
 
-const FAULTS: [(&str, u16, u32); 22] = [
+// The letter of an expression, its place, and its text or name.
+fn push_place(alloc: Global, out: &mut String, expr: &Expr) -> Result<(), Memory> {
+    out.push(letter(expr))?;
+    out.push_str(format!(in alloc; "{}-{}", expr.span.start, expr.span.end)?.as_str())?;
+    match &expr.form {
+        Form::Literal(Value::Text(text)) => {
+            out.push(':')?;
+            out.push_str(text.as_str())?;
+        }
+        Form::Read(Root::Name(name), _) => {
+            out.push(':')?;
+            out.push_str(name.as_str())?;
+        }
+        _ => {}
+    }
+    Ok(())
+}
+
+// The places of a group and of the sums in it, each with its right side, from the outermost on.
+fn places(alloc: Global, group: &Expr) -> Result<String, Memory> {
+    let mut told = String::new(alloc);
+    push_place(alloc, &mut told, group)?;
+    let Form::Group(inner) = &group.form else {
+        return Ok(told);
+    };
+    let mut rest: &Expr = inner;
+    while let Form::Binary(_, left, right) = &rest.form {
+        told.push(' ')?;
+        push_place(alloc, &mut told, rest)?;
+        told.push(' ')?;
+        push_place(alloc, &mut told, right)?;
+        rest = left;
+    }
+    told.push(' ')?;
+    push_place(alloc, &mut told, rest)?;
+    Ok(told)
+}
+
+const SUMS: [(&str, &str); 3] = [
+    ("\"a{{ n }}c\"", "g0-11 +0-11 l0-11:c +0-11 r5-6:n l0-11:a"),
+    ("  \"{{a}}\"", "g2-9 +2-9 l2-9: +2-9 r5-6:a l2-9:"),
+    (
+        "\"{{ a }}b{{  cd }}\"",
+        "g0-19 +0-19 l0-19: +0-19 r13-15:cd +0-19 l0-19:b +0-19 r4-5:a l0-19:",
+    ),
+];
+
+#[test]
+fn sums_of_texts_with_variables(rt: HostRuntime) -> Result<(), Memory> {
+    for (text, wanted) in &SUMS {
+        let Ok(found) = script(&rt, text) else {
+            assert!(rt; false, "at {text:?}");
+            continue;
+        };
+        let Some(item) = found.items.as_slice().first() else {
+            assert!(rt; false, "at {text:?}");
+            continue;
+        };
+        let told = places(rt.alloc(), item)?;
+        assert!(rt; told.as_str() == *wanted, "at {text:?} {told:?}");
+    }
+    Ok(())
+}
+
+const FAULTS: [(&str, u16, u32); 26] = [
     (".x = 1 2", 203, 7),
     (".x = (1", 203, 7),
     ("if true 1", 203, 8),
@@ -177,11 +253,15 @@ const FAULTS: [(&str, u16, u32); 22] = [
     ("5 % 2", 203, 2),
     ("%.a", 203, 1),
     ("f()%a", 203, 3),
+    ("{ \"a{{ n }}\": 1 }", 203, 2),
+    ("\"{{ a }}\".b", 203, 9),
+    ("\"{{ a }}\" \"b\"", 203, 10),
+    ("\"{{ a }}\" = 1", 203, 10),
     (".a[65536] = 1", 1012, 0),
-    (".a[-1] = 1", 1007, 0),
-    ("b = .a[0]; .a[-1][65536] = 1", 1007, 11),
-    ("del(x: .a[-1]); .b[65536] = 1", 1007, 7),
-    ("%a[-1] = 1", 1007, 0),
+    (".a[-65537] = 1", 1012, 0),
+    ("b = .a[0]; .a[-1][65536] = 1", 1012, 11),
+    ("del(x: .a[-65537]); .b[65536] = 1", 1012, 7),
+    ("%a[-65537] = 1", 1012, 0),
     ("del(%[65536])", 1012, 4),
 ];
 

@@ -1,5 +1,5 @@
 ghost use Rattle.std.specs.Prelude.{◌≡◌, IfOk};
-ghost use Rattle.vrl_path.specs.Steps.{IsPlain, IsWritable};
+ghost use Rattle.vrl_path.specs.Steps.{IsWritable};
 ghost use Rattle.vrl_store.specs.StoreView.{count_of, IsKnown};
 
 // The event, the metadata and two other variables of a run, step by step.
@@ -272,7 +272,6 @@ const STEPS: [Row; 20] = [
 fn target_path(alloc: Global, root: Root, field: &str) -> Result<TargetPath, Memory>
     ensures base { IfOk result (λ target. IsKnown 3 target.base) }
     ensures writable { IfOk result (λ target. IsWritable target.path) }
-    ensures plain { IfOk result (λ target. IsPlain target.path) }
 {
     let base = match root {
         Root::Event => Base::Event,

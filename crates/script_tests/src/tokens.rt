@@ -1,12 +1,13 @@
 // The tokens of texts, and what is wrong with texts.
 use std::process::Abort;
-use vrl_token::{SyntaxFault, Token, script_text, tokens};
-use vrl_value::Memory;
+use vrl_token::{Holes, Spanned, SyntaxFault, Token, script_text, tokens};
+use vrl_value::{Chars, Memory};
 
 // A letter for each sort of token.
 fn letter(token: &Token) -> u8 {
     match token {
         Token::Text(_) => b'"',
+        Token::Template(_, _) => b'h',
         Token::RawText(_) => b's',
         Token::Regex(_) => b'r',
         Token::Timestamp(_) => b't',
@@ -87,7 +88,7 @@ fn expect_faults(rt: &(impl Abort + AllocGlobal), rows: &[(&str, u16, u32, u32)]
     }
 }
 
-const TOKENS: [(&str, &str); 62] = [
+const TOKENS: [(&str, &str); 81] = [
     ("", ""),
     (".x = 1", ".=1"),
     (".x = 1; .y = 2", ".=1;.=1"),
@@ -150,6 +151,25 @@ const TOKENS: [(&str, &str); 62] = [
     ("-> |a| |b| c", "ABnC|n|n"),
     ("(a | b)", "(n|n)"),
     ("\"a\\n\\\"b\"", "\""),
+    ("\"{{ a }}\"", "h"),
+    ("\"a{{ n }}c{{m}}\"", "h"),
+    ("\"{{\t _a1\r}}\"", "h"),
+    ("\"{{ iff }}{\"", "h"),
+    ("\"}}{{a}}}}\"", "h"),
+    ("\"{{a}}\n{{b}}\"", "h"),
+    ("\"{\\{{{ a }}\"", "h"),
+    ("\"\\{{ a }}\"", "\""),
+    ("\"{\\{ a }}\"", "\""),
+    ("\"{ { a }}\"", "\""),
+    ("\"\\\\{\"", "\""),
+    ("s'{{ a }}'", "s"),
+    (".\"{{ a }}\" .\"\\{\"", ".."),
+    ("\"{{ a }}\" -1", "h-1"),
+    ("\"{{ a }}\" %a", "h%"),
+    ("\"{{ a }}\"\n-1", "h;1"),
+    ("x = {\n\"{{ k }}\"\n: 1 }", "n=oh:1}"),
+    ("x = { \"{{ k }}\" }", "n={h}"),
+    ("[\"{{ a }}\"\n]", "[h]"),
 ];
 
 #[test]
@@ -157,9 +177,25 @@ fn tokens_of_scripts(rt: HostRuntime) -> Result<(), Memory> {
     expect_tokens(&rt, &TOKENS)
 }
 
-const FAULTS: [(&str, u16, u32, u32); 34] = [
+const FAULTS: [(&str, u16, u32, u32); 50] = [
     (".x = \"a", 203, 5, 7),
-    (".x = \"{{ a }}\"", 1016, 5, 14),
+    (".x = \"{{ 1 }}\"", 1016, 5, 14),
+    ("\"{{ true }}\"", 1016, 0, 12),
+    ("\"{{ a.b }}\"", 1016, 0, 11),
+    ("\"{{ a \"", 1016, 0, 7),
+    ("\"{{ a }\"", 1016, 0, 8),
+    ("\"{{ a } }\"", 1016, 0, 10),
+    ("\"{{ a\\t}}\"", 1016, 0, 10),
+    ("\"{{\na }}\"", 1016, 0, 9),
+    ("\"{{}}\"", 1016, 0, 6),
+    ("\"{{{ a }}\"", 1016, 0, 10),
+    ("\"{{ a }}{{\"", 1016, 0, 11),
+    ("\"{{ a }}\\\\{{ }}\"", 1016, 0, 16),
+    ("\"{{ \\q }}\"", 203, 0, 10),
+    ("\"{{ 1 }}\\q\"", 203, 0, 11),
+    ("\"{{ a }}\\q\"", 203, 0, 11),
+    ("\"\\}\"", 203, 0, 4),
+    ("\"{{ a }}", 203, 0, 8),
     (".x = 1.5", 1001, 5, 8),
     (".x = 1.5x", 1001, 5, 8),
     (".x = 1e5x", 1001, 5, 8),
@@ -202,12 +238,14 @@ fn faults_of_scripts(rt: HostRuntime) -> Result<(), Memory> {
 
 fn expect_nesting(
     rt: &(impl Abort + AllocGlobal),
+    start: &str,
     front: &str,
     count: usize,
     back: &str,
     wanted: u16,
 ) -> Result<(), Memory> {
     let mut text = String::new(rt.alloc());
+    text.push_str(start)?;
     for _ in 0..count {
         text.push_str(front)?;
     }
@@ -218,27 +256,85 @@ fn expect_nesting(
         Err(SyntaxFault::Fault(fault)) => fault.code,
         Err(SyntaxFault::Memory) => 1,
     };
-    assert!(rt; code == wanted, "at {front:?} {count:?} {code:?}");
+    assert!(rt; code == wanted, "at {start:?} {front:?} {count:?} {code:?}");
     Ok(())
 }
 
 #[test]
 fn nestings(rt: HostRuntime) -> Result<(), Memory> {
-    expect_nesting(&rt, "(", 64, "", 0)?;
-    expect_nesting(&rt, "(", 65, "", 1008)?;
-    expect_nesting(&rt, "x + ", 64, "y", 0)?;
-    expect_nesting(&rt, "x + ", 65, "y", 1008)?;
-    expect_nesting(&rt, "x + ", 63, "(y)", 0)?;
-    expect_nesting(&rt, "x + ", 64, "(y)", 1008)?;
-    expect_nesting(&rt, "(", 63, "y) + y", 0)?;
-    expect_nesting(&rt, "(", 64, "y) + y", 1008)?;
-    expect_nesting(&rt, "f(x) -> |v| { ", 4, "", 0)?;
-    expect_nesting(&rt, "f(x) -> |v| { ", 5, "", 1008)?;
-    expect_nesting(&rt, "r'a' ", 256, "", 0)?;
-    expect_nesting(&rt, "r'a' ", 257, "", 1016)?;
-    expect_nesting(&rt, "x = 1\n", 10000, "", 0)?;
-    expect_nesting(&rt, "\n", 65536, "", 0)?;
-    expect_nesting(&rt, "x, ", 20000, "", 0)?;
+    expect_nesting(&rt, "", "(", 64, "", 0)?;
+    expect_nesting(&rt, "", "(", 65, "", 1008)?;
+    expect_nesting(&rt, "", "x + ", 64, "y", 0)?;
+    expect_nesting(&rt, "", "x + ", 65, "y", 1008)?;
+    expect_nesting(&rt, "", "x + ", 63, "(y)", 0)?;
+    expect_nesting(&rt, "", "x + ", 64, "(y)", 1008)?;
+    expect_nesting(&rt, "", "(", 63, "y) + y", 0)?;
+    expect_nesting(&rt, "", "(", 64, "y) + y", 1008)?;
+    expect_nesting(&rt, "", "f(x) -> |v| { ", 4, "", 0)?;
+    expect_nesting(&rt, "", "f(x) -> |v| { ", 5, "", 1008)?;
+    expect_nesting(&rt, "", "r'a' ", 256, "", 0)?;
+    expect_nesting(&rt, "", "r'a' ", 257, "", 1016)?;
+    expect_nesting(&rt, "", "x = 1\n", 10000, "", 0)?;
+    expect_nesting(&rt, "", "\n", 65536, "", 0)?;
+    expect_nesting(&rt, "", "x, ", 20000, "", 0)?;
+    expect_nesting(&rt, ".x = \"", "{{a}}", 31, "\"", 0)?;
+    expect_nesting(&rt, ".x = \"", "{{a}}", 32, "\"", 1008)?;
+    expect_nesting(&rt, "(\"", "{{a}}", 31, "\")", 0)?;
+    expect_nesting(&rt, "(\"", "{{a}}", 31, "\") + y", 1008)?;
+    expect_nesting(&rt, "\"", "{{a}}", 31, "\" + y", 0)?;
+    expect_nesting(&rt, "\"", "{{a}}", 31, "\" + y + z", 1008)?;
+    expect_nesting(&rt, "x + ", "\"{{a}}\" + ", 60, "y", 0)?;
+    expect_nesting(&rt, "\"", "{{ a }}\\{", 7000, "\"", 1008)?;
+    Ok(())
+}
+
+// The text before the first variable of a text, and of each variable its name, its distance and the
+// text behind it.
+fn write_parts(out: &mut String, first: &Chars, holes: &Holes) -> Result<(), Memory> {
+    out.push_str(first.as_str())?;
+    for hole in holes.as_slice() {
+        out.push('|')?;
+        out.push_str(hole.name.as_str())?;
+        out.push('|')?;
+        for _ in 0..hole.distance {
+            out.push('.')?;
+        }
+        out.push('|')?;
+        out.push_str(hole.behind.as_str())?;
+    }
+    Ok(())
+}
+
+const PARTS: [(&str, &str); 6] = [
+    ("\"{{ a }}\"", "|a|.....|"),
+    ("\"a{{ n }}c\"", "a|n|......|c"),
+    ("\"{{a}}{{  bc }}\"", "|a|.............||bc|......|"),
+    (
+        "\"\\n{{ a\t}}\\{{{ b }}\"",
+        "\n|a|..............|{|b|.....|",
+    ),
+    ("\"{{ a }}\u{e9}}}\"", "|a|.........|\u{e9}}}"),
+    ("\"a\n{{ a }}\\\"\"", "a\n|a|.......|\""),
+];
+
+#[test]
+fn parts_of_texts(rt: HostRuntime) -> Result<(), Memory> {
+    for (text, wanted) in &PARTS {
+        assert!(rt; text.len() <= 65_536);
+        let mut made = String::new(rt.alloc());
+        if let Ok(found) = tokens(rt.alloc(), text) {
+            if let Some(
+                Spanned {
+                    token: Token::Template(first, holes),
+                    ..
+                },
+            ) = found.as_slice().first()
+            {
+                write_parts(&mut made, first, holes)?;
+            }
+        }
+        assert!(rt; made.as_str() == *wanted, "at {text:?} {made:?}");
+    }
     Ok(())
 }
 

@@ -82,7 +82,7 @@ fn expect_letters(rt: &impl Abort, alloc: Global, rows: &[(&str, &str)]) -> Resu
     Ok(())
 }
 
-const WORDS: [(&str, &str); 8] = [
+const WORDS: [(&str, &str); 9] = [
     ("-1 2", "ii"),
     ("1 -2", "ioi"),
     (
@@ -94,6 +94,7 @@ const WORDS: [(&str, &str); 8] = [
     ("a + b * c", "pop*p"),
     ("a ?? b == c", "popop"),
     ("if else return ( ]", "....."),
+    ("\"a{{ n }}\" + \"b\"", ".ol"),
 ];
 
 #[test]

@@ -1,6 +1,6 @@
 -- No code stands twice at one place: each form gives a code once at its own place, and once at the place of each part, by codes of which none is
 -- both.
-use Rattle.std.proofs.Common.{◌≡◌, ℕ, ◌+◌, ◌≤◌, arith, Bool, true, false, ◌&&◌, ◌||◌, not, List, [], ◌∷◌, ◌++◌, Option, Some, None, nat_eq, eqb-true, refl, sym, ap, subst, ◌∙◌}
+use Rattle.std.proofs.Common.{◌≡◌, ℕ, ◌+◌, ◌≤◌, arith, Bool, true, false, ◌&&◌, ◌||◌, not, if◌then◌else◌, List, [], ◌∷◌, ◌++◌, Option, Some, None, nat_eq, eqb-true, refl, sym, ap, subst, ◌∙◌}
 use Rattle.std.specs.List.{list_any}
 use Rattle.std.proofs.lemmas.Bool.{true≢false}
 use Rattle.vrl_diag.specs.declared.diagnostic.Diagnostic.{Diagnostic}
@@ -16,7 +16,7 @@ use Rattle.vrl_binding.specs.Binding.{path_parameters}
 use Rattle.vrl_table.specs.Table.{row_of, ParametersAreToldApart}
 use Rattle.vrl_judge.specs.Closures.{ClosureBody, Try, of_body}
 use Rattle.vrl_judge.specs.Rules.{Argument, Judgement, Loop, is_comparison, is_compared, is_fallible, is_message_wrong, is_needless, is_nowhere, is_other, is_equality, at, chained, no_objects, of_assignment, of_error_assignment, of_message, of_predicate, puts_misfit, when, with_codes, writes_misfit}
-use Rattle.vrl_check.specs.Apart.{arguments_at, at_place, closure_blocks_at, expressions_at, names_at, nothing_weighs, one_if, same_span, weigh_args, weigh_arms, weigh_closure, weigh_else, weigh_expr, weigh_exprs, weigh_form, weigh_message, weigh_pairs, weigh_target, AreApart, NoCodeStandsTwice, Weights}
+use Rattle.vrl_check.specs.Apart.{arguments_at, at_place, closure_blocks_at, expressions_at, names_at, nothing_weighs, one_if, same_span, weigh_args, weigh_arms, weigh_closure, weigh_else, weigh_expr, weigh_exprs, weigh_form, weigh_message, weigh_pairs, weigh_target, weigh_within, is_quiet, is_sum, AreApart, NoCodeStandsTwice, Weights}
 use Rattle.vrl_check.specs.Judgement.{deleted_kind, of_item, pair_values, passing_closure, table_of, wants_literal, wants_path}
 use Rattle.vrl_check.specs.Judgement.{Judges, unreached, reached, Gives, a_literal, an_array, an_object, a_known_root, an_unknown_root, a_query, a_group, a_block, a_conditional, a_negation, an_equality, of_table, a_merge, a_conjunction, a_disjunction, a_coalescing, an_assignment, a_merge_into_nothing, a_merge_assignment, an_error_assignment, a_call_of_nothing, a_call, a_deletion, an_existence, a_wrong_closure_call, a_closure_call, a_return, an_abort, an_abort_with, JudgesBoth, operands, JudgesAll, no_more, one_more, JudgesArguments, no_more_arguments, one_more_argument, JudgesBlock, unreached_block, reached_block, JudgesArms, an_arm, an_else, a_missing_else, JudgesBody, unreached_body, reached_body, JudgesTries, a_stable_try, an_unstable_try, JudgesRuns, by_tries, by_what_is_given, JudgesItems, no_more_items, one_more_item, JudgesScript, a_script}
 use Rattle.vrl_check.specs.OpenRules.{OpenRules}
@@ -33,6 +33,18 @@ no_merge_or is = cc
 
 no_merge_coalesce : op.Coalesce ≡ op.Merge → ⊥
 no_merge_coalesce is = cc
+
+-- a sum is no comparison, and gives no code of one
+no_comparison : (o : Op) → is_sum o ≡ true → is_comparison o ≡ false
+no_comparison op.Plus is = refl
+no_comparison o is = absurd (true≢false (sym is))
+
+no_equality : (o : Op) → is_sum o ≡ true → is_equality o ≡ false
+no_equality op.Plus is = refl
+no_equality o is = absurd (true≢false (sym is))
+
+sum_gives_none : (span : Span) (o : Op) (l r : Expr) → is_sum o ≡ true → chained span o l r ≡ []
+sum_gives_none span o l r is = ap (λ b. when (b && (is_compared l || is_compared r)) (at 650 span)) (no_comparison o is)
 
 Some≢None : {A : Type 0} {a : A} → Some a ≡ None → ⊥
 Some≢None is = cc
@@ -56,10 +68,21 @@ module _ (rules : OpenRules) (names_apart : ParametersAreToldApart) (code : ℕ)
   abbrev at_part : Span → ℕ
   at_part span = part code here span
 
+  -- where what holds a part may give it a code, the part counts in full
+  in_full : (e : Expr) → weigh_within w false e ≡ weigh_expr w e
+  in_full (expr span f) = refl
+
+  nothing_light : (n : ℕ) → count [] ≤ n
+  nothing_light n = let none = none_counted code here in omega (arith, none)
+
+  -- a form within a group or a sum counts at its own place where it may give a code there
+  quiet_or_own : (span : Span) (f : Form) (n : ℕ) (b : Bool) → is_quiet f ≡ b → (is_quiet f ≡ true → n ≤ weigh_form w f) → n ≤ at_own span + weigh_form w f → n ≤ (if b then 0 else w.expression span) + weigh_form w f
+  quiet_or_own span f n true is quiet few = let less = quiet is in omega (arith, less)
+  quiet_or_own span f n false is quiet few = omega (arith, few)
+
   -- a comparison, behind its operands
-  chained_light : (span : Span) (o : Op) (l r : Expr) (whole : Judgement) → count whole.codes + (at_part (span_of l) + at_part (span_of r)) ≤ weigh_expr w l + weigh_expr w r →
-      count (whole.codes ++ chained span o l r) ≤ at_own span + (weigh_expr w l + weigh_expr w r)
-  chained_light span o l r whole few =
+  chained_light : (span : Span) (o : Op) (l r : Expr) (whole : Judgement) (n : ℕ) → count whole.codes ≤ n → count (whole.codes ++ chained span o l r) ≤ at_own span + n
+  chained_light span o l r whole n few =
       let all = both_counted code here whole.codes (chained span o l r) in
       let more = when_counted code here (is_comparison o && (is_compared l || is_compared r)) 650 span in
       let its = own_650 code here span in
@@ -102,7 +125,7 @@ module _ (rules : OpenRules) (names_apart : ParametersAreToldApart) (code : ℕ)
     gives_light (a_known_root {span = span} is at) = let none = none_counted code here in omega (arith, none)
     gives_light (an_unknown_root {span = span} is) = let few = one_counted code here 701 span in let its = own_701 code here span in omega (arith, few, its)
     gives_light (a_query {span = span} {e = e} {j = j} judged at) = let few = judges_light judged in omega (arith, few)
-    gives_light (a_group {span = span} {e = e} {j = j} judged) = let few = judges_light judged in omega (arith, few)
+    gives_light (a_group {span = span} {e = e} {j = j} judged) = let few = within_light true judged in omega (arith, few)
     gives_light (a_block {span = span} {es = es} {j = j} items) = let few = block_light items in omega (arith, few)
     gives_light (a_conditional {span = span} {gs = gs} {es = es} {j = j} arms) = let few = arms_light arms in let none = none_counted code here in omega (arith, few, none)
     gives_light (a_negation {span = span} {e = e} {j = j} judged scalar) =
@@ -111,23 +134,26 @@ module _ (rules : OpenRules) (names_apart : ParametersAreToldApart) (code : ℕ)
         let more = when_counted code here (is_other tag.Bool j) 660 span in
         let its = own_660 code here span in
         omega (arith, few, codes, more, its)
-    gives_light (an_equality {span = span} {o = o} {l = l} {r = r} {whole = whole} is parts scalar) = chained_light span o l r whole (operands_light parts)
-    gives_light (of_table {span = span} {o = o} {l = l} {r = r} {whole = whole} is parts cut fails) = chained_light span o l r whole (operands_light parts)
+    gives_light (an_equality {span = span} {o = o} {l = l} {r = r} {whole = whole} is parts scalar) = chained_light span o l r whole (weigh_within w (is_sum o) l + weigh_within w (is_sum o) r) (sides_light (is_sum o) parts)
+    gives_light (of_table {span = span} {o = o} {l = l} {r = r} {whole = whole} is parts cut fails) = chained_light span o l r whole (weigh_within w (is_sum o) l + weigh_within w (is_sum o) r) (sides_light (is_sum o) parts)
     gives_light (a_merge {span = span} {l = l} {r = r} {j = j} {k = k} {whole = whole} parts merged) =
-        let few = merged_light l r j k whole (operands_light parts) in omega (arith, few)
+        let few = merged_light l r j k whole (operands_light parts) in
+        let one = in_full l in
+        let two = in_full r in
+        omega (arith, few, one, two)
     gives_light (a_conjunction {span = span} {l = l} {r = r} {j = j} {k = k} {whole = whole} left_fail part_fail left right in_order scalar ok one two three) =
-        let first = judges_light left in
-        let second = judges_light right in
+        let first = within_light false left in
+        let second = within_light false right in
         let codes = behind_counted code here j k whole in_order in
         omega (arith, first, second, codes)
     gives_light (a_disjunction {span = span} {l = l} {r = r} {j = j} {k = k} {whole = whole} left right next cut ok) =
-        let first = judges_light left in
-        let second = judges_light right in
+        let first = within_light false left in
+        let second = within_light false right in
         let codes = behind_counted code here j k whole next.behind in
         omega (arith, first, second, codes)
     gives_light (a_coalescing {span = span} {l = l} {r = r} {j = j} {k = k} {whole = whole} left right in_order either ok) =
-        let first = judges_light left in
-        let second = judges_light right in
+        let first = within_light false left in
+        let second = within_light false right in
         let codes = behind_counted code here j k whole in_order in
         let all = both_counted code here whole.codes (when (is_needless j) (at 651 span)) in
         let more = when_counted code here (is_needless j) 651 span in
@@ -192,6 +218,34 @@ module _ (rules : OpenRules) (names_apart : ParametersAreToldApart) (code : ℕ)
         let more = when_counted code here (is_message_wrong j) 1011 (span_of e) in
         let its = part_1011 code here (span_of e) in
         omega (arith, few, all, more, its)
+
+    -- what a form gives that has no code at its own place
+    quiet_light : {inside : Bool} {known : RootMap} {span : Span} {j : Judgement} (f : Form) → is_quiet f ≡ true → Gives rules inside known span f j → count j.codes ≤ weigh_form w f
+    quiet_light (literal v) is (a_literal cut) = let none = none_counted code here in omega (arith, none)
+    quiet_light (group e) is (a_group judged) = within_light true judged
+    quiet_light (binary o l r) is (of_table {span = span} {whole = whole} from parts cut fails) =
+        let few = sides_light (is_sum o) parts in
+        let all = both_counted code here whole.codes (chained span o l r) in
+        let none = ap count (sum_gives_none span o l r is) ∙ none_counted code here in
+        omega (arith, few, all, none)
+    quiet_light (binary o l r) is (an_equality equal parts scalar) = absurd (true≢false (sym equal ∙ no_equality o is))
+    quiet_light (binary op.Merge l r) is (a_merge parts merged) = absurd (true≢false (sym is))
+    quiet_light (binary op.And l r) is (a_conjunction left_fail part_fail left right in_order scalar ok one two three) = absurd (true≢false (sym is))
+    quiet_light (binary op.Or l r) is (a_disjunction left right next cut ok) = absurd (true≢false (sym is))
+    quiet_light (binary op.Coalesce l r) is (a_coalescing left right in_order either ok) = absurd (true≢false (sym is))
+    quiet_light f is gives = let wrong : ⊥ = cc in absurd wrong
+
+    within_light : {inside : Bool} {known : Option RootMap} {e : Expr} {j : Judgement} (quiet : Bool) → Judges rules inside known e j → count j.codes ≤ weigh_within w quiet e
+    within_light quiet (unreached {e = e} allowed) = nothing_light (weigh_within w quiet e)
+    within_light false (reached {span = span} {f = f} gives) = let few = gives_light gives in omega (arith, few)
+    within_light true (reached {span = span} {f = f} {j = j} gives) = quiet_or_own span f (count j.codes) (is_quiet f) refl (λ is. quiet_light f is gives) (gives_light gives)
+
+    sides_light : {inside : Bool} {known : RootMap} {l r : Expr} {j k whole : Judgement} (quiet : Bool) → JudgesBoth rules inside known l r j k whole → count whole.codes ≤ weigh_within w quiet l + weigh_within w quiet r
+    sides_light quiet (operands {l = l} {r = r} {j = j} {k = k} {whole = whole} left right next) =
+        let first = within_light quiet left in
+        let second = within_light quiet right in
+        let codes = behind_counted code here j k whole next.behind in
+        omega (arith, first, second, codes)
 
     -- a merge gives no code at its own place
     merge_light : {inside : Bool} {known : RootMap} {span : Span} {o : Op} {l r : Expr} {j : Judgement} → o ≡ op.Merge → Gives rules inside known span (binary o l r) j → count j.codes ≤ weigh_expr w l + weigh_expr w r
@@ -289,17 +343,23 @@ module _ (u v : Weights) (at_expressions : (span : Span) → u.expression span �
     expr_less : (e : Expr) → weigh_expr u e ≤ weigh_expr v e
     expr_less (expr span f) = let one = at_expressions span in let more = form_less f in omega (arith, one, more)
 
+    within_less : (quiet : Bool) (e : Expr) → weigh_within u quiet e ≤ weigh_within v quiet e
+    within_less quiet (expr span f) = by (quiet && is_quiet f) (form_less f) where
+      by : (b : Bool) → weigh_form u f ≤ weigh_form v f → (if b then 0 else u.expression span) + weigh_form u f ≤ (if b then 0 else v.expression span) + weigh_form v f
+      by true more = omega (arith, more)
+      by false more = let one = at_expressions span in omega (arith, one, more)
+
     form_less : (f : Form) → weigh_form u f ≤ weigh_form v f
     form_less (literal a) = omega arith
     form_less (array es) = exprs_less es
     form_less (object ps) = pairs_less ps
     form_less (read root path) = omega arith
     form_less (query e path) = expr_less e
-    form_less (group e) = expr_less e
+    form_less (group e) = within_less true e
     form_less (block es) = exprs_less es
     form_less (conditional gs es) = let one = arms_less gs in let more = else_less es in omega (arith, one, more)
     form_less (negation e) = expr_less e
-    form_less (binary o l r) = let one = expr_less l in let more = expr_less r in omega (arith, one, more)
+    form_less (binary o l r) = let one = within_less (is_sum o) l in let more = within_less (is_sum o) r in omega (arith, one, more)
     form_less (assign t e) = expr_less e
     form_less (merge t e) = let one = target_less t in let more = expr_less e in omega (arith, one, more)
     form_less (both t other e) = expr_less e

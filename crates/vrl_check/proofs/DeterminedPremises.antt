@@ -22,8 +22,8 @@ use Rattle.vrl_kind.specs.KindTree.{KindTree}
 use Rattle.vrl_kind.specs.Kinds.{tags_at}
 use Rattle.vrl_kind.specs.Laws.{EqualTagsAreOneKind}
 use Rattle.vrl_kind.specs.Sets.{Sets}
-use Rattle.vrl_place.specs.Remove.{remove}
-use Rattle.vrl_state.specs.States.{HasNow, IsCutOf, IsEachTurned, IsEither, IsEitherVariable, IsJoined, RootMap, Variables, kind_of, with_kind}
+use Rattle.vrl_place.proofs.OneResult.{one_removal, one_write}
+use Rattle.vrl_state.specs.States.{HasNow, IsCutOf, IsEachTurned, IsEither, IsEitherVariable, IsJoined, IsLeftKind, IsWrittenKind, RootMap, Variables, kind_of, with_kind, written_from}
 use Rattle.vrl_builtin.specs.declared.tags.Tags.{Tags as TagSet}
 use Rattle.vrl_judge.specs.Rules.{Argument, Judgement, Loop, IsBehind, IsDeleted, IsMerged, IsMergedIf, IsReadAt, IsThen, IsTargetWritten, settle}
 use Rattle.vrl_check.specs.Judgement.{AreUnjudged, IsBeside, Judges, Gives, JudgesAll, JudgesArguments, JudgesBlock, JudgesArms, IsCutDown, IsDeletedAt, unreached, unreached_parts, reached}
@@ -49,6 +49,16 @@ one_cut kinds {B = B} {M = M} {N = N} sets one two =
     let a : IsCutOf B M = subst (λ S. IsCutOf S M) sets one in
     let whole : a.whole ≡ two.whole = kinds a.whole two.whole a.canonical two.canonical (λ p t. a.tags p t ∙ sym (two.tags p t)) in
     one_cut_by two.whole M N (subst (λ K. IsCut K M) whole a.cut) two.cut
+
+pub one_written_kind : EqualTagsAreOneKind → (K N M L : KindTree) (path : List Step) → IsWrittenKind K path N M → IsWrittenKind K path N L → M ≡ L
+one_written_kind kinds K N M L path one two =
+    let whole : one.whole ≡ two.whole = kinds one.whole two.whole one.canonical two.canonical (one_write path (tags_at K) (tags_at N) (tags_at one.whole) (tags_at two.whole) one.write two.write) in
+    one_cut_by two.whole M L (subst (λ W. IsCut W M) whole one.cut) two.cut
+
+pub one_left_kind : EqualTagsAreOneKind → (K M L : KindTree) (path : List Step) → IsLeftKind K path M → IsLeftKind K path L → M ≡ L
+one_left_kind kinds K M L path one two =
+    let whole : one.whole ≡ two.whole = kinds one.whole two.whole one.canonical two.canonical (one_removal path (tags_at K) (tags_at one.whole) (tags_at two.whole) one.removal two.removal) in
+    one_cut_by two.whole M L (subst (λ W. IsCut W M) whole one.cut) two.cut
 
 both_or_neither : (a b : Bool) → (IsTrue a → IsTrue b) → (IsTrue b → IsTrue a) → a ≡ b
 both_or_neither true b to from = sym (to refl)
@@ -111,18 +121,18 @@ one_written_of : EqualTagsAreOneKind → (t : Target) (K : KindTree) (before c d
 one_written_of kinds Nowhere K before c d one two = one ∙ sym two
 one_written_of kinds (Place span root path) K None c d one two = one ∙ sym two
 one_written_of kinds (Place span root path) K (Some roots) c d one two =
-    one.2 ∙ ap (λ M. Some (with_kind root M roots)) (one_cut kinds refl one.1 two.1) ∙ sym two.2
+    one.2 ∙ ap (λ M. Some (with_kind root M roots)) (one_written_kind kinds (written_from (kind_of root roots)) K one.0 two.0 path one.1 two.1) ∙ sym two.2
 
 pub one_written : EqualTagsAreOneKind → (t : Target) {K L : KindTree} {a b c d : Option RootMap} → K ≡ L → a ≡ b → IsTargetWritten t K a c → IsTargetWritten t L b d → c ≡ d
 one_written kinds t {L = L} {a = a} {b = b} {c = c} {d = d} kind known one two =
     one_written_of kinds t L b c d (subst (λ x. IsTargetWritten t L x c) known (subst (λ K. IsTargetWritten t K a c) kind one)) two
 
 abbrev IsTakenOutOf : Option KindTree → Root → List Step → RootMap → Option RootMap → Type 0
-IsTakenOutOf found root path roots after = MatchOption found (after ≡ Some roots) (λ K. HasNow root (remove (tags_at K) path) roots after)
+IsTakenOutOf found root path roots after = MatchOption found (after ≡ Some roots) (λ K. HasNow root (IsLeftKind K path) roots after)
 
 one_taken_out : EqualTagsAreOneKind → (found : Option KindTree) (root : Root) (path : List Step) (roots : RootMap) (c d : Option RootMap) → IsTakenOutOf found root path roots c → IsTakenOutOf found root path roots d → c ≡ d
 one_taken_out kinds None root path roots c d one two = one ∙ sym two
-one_taken_out kinds (Some K) root path roots c d one two = one.2 ∙ ap (λ M. Some (with_kind root M roots)) (one_cut kinds refl one.1 two.1) ∙ sym two.2
+one_taken_out kinds (Some K) root path roots c d one two = one.2 ∙ ap (λ M. Some (with_kind root M roots)) (one_left_kind kinds K one.0 two.0 path one.1 two.1) ∙ sym two.2
 
 one_deleted_of : EqualTagsAreOneKind → (root : Root) (path : List Step) (before c d : Option RootMap) → IsDeleted root path before c → IsDeleted root path before d → c ≡ d
 one_deleted_of kinds root [] before c d one two = one.2 ∙ ap (λ M. option_map (with_kind root M) before) (one_cut kinds refl one.1 two.1) ∙ sym two.2

@@ -36,7 +36,7 @@ metadata_written kinds K J r path before after root whole kind start written sam
     (subst (λ L. IsWritten metadata [] L before.known after.known) kind (subst (λ p. IsWritten metadata p J before.known after.known) whole (subst (λ s. IsWritten s path J before.known after.known) root written)))
     in
     let M = there.1 in
-    let cut : IsCutOf (tags_at json_object) there.0 = record { whole = M.whole; canonical = M.canonical; tags = λ p t. M.tags p t; cut = M.cut } in
+    let cut : IsCutOf (tags_at json_object) there.0 = record { whole = M.whole; canonical = M.canonical; tags = λ p t. M.write p t; cut = M.cut } in
     let is : there.0 ≡ json_object = one_cut kinds refl cut json_kept in
     record {
       roots = with_kind metadata json_object start.roots;

@@ -22,9 +22,8 @@ use Rattle.vrl_kind.specs.Canonical.{any_kind}
 use Rattle.vrl_kind.specs.Cut.{flat}
 use Rattle.vrl_kind.specs.KindTree.{KindTree}
 use Rattle.vrl_kind.specs.Kinds.{tags_at, IsWithin}
-use Rattle.vrl_place.specs.Remove.{remove}
 use Rattle.vrl_state.specs.Laws.{ForgettingWidens, RootKindsJoinThemselves}
-use Rattle.vrl_state.specs.States.{body_scope, kept, kind_in, kind_of, same_root, with_kind, with_names, written_from, HasNow, HasRootKinds, IsEachTurned, IsEither, IsEitherMap, IsEitherVariable, IsForgotten, IsJoined, IsKnownWithin, IsRootKind, IsRootKindIf, IsVariableWithin, RootMap, Scope, Variables}
+use Rattle.vrl_state.specs.States.{body_scope, kept, kind_in, kind_of, same_root, with_kind, with_names, written_from, HasNow, HasRootKinds, IsEachTurned, IsEither, IsEitherMap, IsEitherVariable, IsForgotten, IsJoined, IsKnownWithin, IsLeftKind, IsRootKind, IsRootKindIf, IsVariableWithin, RootMap, Scope, Variables}
 use Rattle.vrl_state.specs.View.{names_of}
 use Rattle.vrl_state.proofs.Behind.{at_behind, first_of}
 use Rattle.vrl_state.proofs.Finite.{at_kept}
@@ -162,11 +161,11 @@ pub target_steady : (W : List Root) (base : RootMap) (t : Target) (N : KindTree)
 target_steady W base Nowhere N before after among root is steady = steady_as W base is steady
 target_steady W base (Place span r path) N None after among root is steady = steady_as W base is steady
 target_steady W base (Place span r path) N (Some now) after among root is steady =
-    has_now_steady W base now r is.0 after (among r (or_left (same_root r r) false (root_itself r))) (written_root (tags_at (written_from (kind_of r now))) N is.0 path root.present is.1) is.2 steady
+    has_now_steady W base now r is.0 after (among r (or_left (same_root r r) false (root_itself r))) (written_root (written_from (kind_of r now)) N is.0 path root.present is.1) is.2 steady
 
 -- what stands at a path is taken out
 taken_steady : (W : List Root) (base now : RootMap) (root : Root) (path : List Step) (found : Option KindTree) (after : Option RootMap) → list_any (same_root root) W ≡ true → IsRootKindIf found
-    → MatchOption found (after ≡ Some now) (λ K. HasNow root (remove (tags_at K) path) now after) → IsSteadyMap W base now → IsSteady W base after
+    → MatchOption found (after ≡ Some now) (λ K. HasNow root (IsLeftKind K path) now after) → IsSteadyMap W base now → IsSteady W base after
 taken_steady W base now root path None after among here is steady = steady_as W base is steady
 taken_steady W base now root path (Some K) after among here is steady = has_now_steady W base now root is.0 after among (removed_root K is.0 path here is.1) is.2 steady
 

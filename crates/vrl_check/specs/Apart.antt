@@ -1,9 +1,11 @@
 -- No code stands twice at one place: a script whose parts stand at places of their own has no
 -- judgement with two equal codes.
-use Rattle.std.specs.Prelude.{ℕ, ◌+◌, ◌≤◌, Bool, true, false, ◌&&◌, List, [], ◌∷◌, nat_eq}
+use Rattle.std.specs.Prelude.{ℕ, ◌+◌, ◌≤◌, Bool, true, false, ◌&&◌, List, [], ◌∷◌, nat_eq, if◌then◌else◌}
 use Rattle.vrl_diag.specs.declared.diagnostic.Diagnostic.{Diagnostic}
 use Rattle.vrl_diag.specs.declared.diagnostic.Span.{Span}
 use Rattle.vrl_syntax.specs.Tree.{Expr, expr, Form, literal, array, object, read, query, group, block, conditional, negation, binary, assign, merge, both, call, return_of, abort_with, Exprs, no_exprs, exprs, Pairs, no_pairs, pair, Arms, no_arms, arm, Else, no_else, else_block, Args, no_args, arg, Closure, no_closure, closure, Message, no_message, message}
+use Rattle.vrl_syntax.specs.declared.root.Op.{Op}
+use Rattle.vrl_syntax.specs.declared.root.Op.TheVariants as op
 use Rattle.vrl_syntax.specs.declared.root.Target.{Target}
 use Rattle.vrl_syntax.specs.declared.root.Target.TheVariants.{Nowhere, Place}
 use Rattle.vrl_kind.specs.KindTree.{KindTree}
@@ -36,10 +38,25 @@ abbrev pub weigh_target : Weights → Target → ℕ
 weigh_target w Nowhere = 0
 weigh_target w (Place span root path) = w.expression span
 
--- what all of a part count together
+abbrev pub is_sum : Op → Bool
+is_sum op.Plus = true
+is_sum o = false
+
+-- the form gives no code at its own place
+abbrev pub is_quiet : Form → Bool
+is_quiet (literal v) = true
+is_quiet (group e) = true
+is_quiet (binary o l r) = is_sum o
+is_quiet f = false
+
+-- What all of a part count together. A group or a sum gives no code at the places of what it holds,
+-- so a literal, a group or a sum that stands there counts nothing at its own.
 abbrev mutual
   pub weigh_expr : Weights → Expr → ℕ
   weigh_expr w (expr span f) = w.expression span + weigh_form w f
+
+  pub weigh_within : Weights → Bool → Expr → ℕ
+  weigh_within w quiet (expr span f) = (if quiet && is_quiet f then 0 else w.expression span) + weigh_form w f
 
   pub weigh_form : Weights → Form → ℕ
   weigh_form w (literal v) = 0
@@ -47,11 +64,11 @@ abbrev mutual
   weigh_form w (object ps) = weigh_pairs w ps
   weigh_form w (read root path) = 0
   weigh_form w (query e path) = weigh_expr w e
-  weigh_form w (group e) = weigh_expr w e
+  weigh_form w (group e) = weigh_within w true e
   weigh_form w (block es) = weigh_exprs w es
   weigh_form w (conditional gs es) = weigh_arms w gs + weigh_else w es
   weigh_form w (negation e) = weigh_expr w e
-  weigh_form w (binary op l r) = weigh_expr w l + weigh_expr w r
+  weigh_form w (binary o l r) = weigh_within w (is_sum o) l + weigh_within w (is_sum o) r
   weigh_form w (assign t e) = weigh_expr w e
   weigh_form w (merge t e) = weigh_target w t + weigh_expr w e
   weigh_form w (both t u e) = weigh_expr w e
@@ -93,7 +110,7 @@ at_place span s = one_if (same_span s span)
 abbrev pub nowhere : Span → ℕ
 nowhere s = 0
 
--- how many expressions stand at a place, how many calls have their name there, how many arguments
+-- how many expressions that count stand at a place, how many calls have their name there, how many arguments
 -- stand there, from their keyword on, and how many blocks of closures
 abbrev pub nothing_weighs : Weights
 nothing_weighs = record { expression = nowhere; name = nowhere; argument = nowhere; closure_block = nowhere }
@@ -110,8 +127,8 @@ arguments_at span es = weigh_exprs (record nothing_weighs { argument = at_place 
 abbrev pub closure_blocks_at : Span → Exprs → ℕ
 closure_blocks_at span es = weigh_exprs (record nothing_weighs { closure_block = at_place span }) es
 
--- no two expressions stand at one place, nor two names of calls, nor two arguments, nor two blocks
--- of closures
+-- no two expressions that count stand at one place, nor two names of calls, nor two arguments, nor
+-- two blocks of closures
 pub record AreApart (items : Exprs) : Type 0 where
   pub expressions : (span : Span) → expressions_at span items ≤ 1
   pub names : (span : Span) → names_at span items ≤ 1

@@ -1,10 +1,11 @@
 -- The parts of a script that is read stand at places of their own: no two expressions, names, arguments or blocks of closures stand at one place.
 use Rattle.std.proofs.Common.{◌≡◌, ℕ, suc, ◌+◌, ◌<◌, ◌≤◌, Bool, true, false, List, nat_eq, eqb-true, refl, sym, ◌∙◌, arith}
+use Rattle.std.specs.List.{AllByRecursion}
 use Rattle.std.proofs.lemmas.Bool.{and_parts}
 use Rattle.vrl_diag.specs.declared.diagnostic.Span.{Span}
 use Rattle.vrl_syntax.specs.Tree.{Script}
 use Rattle.vrl_token.specs.declared.token.Spanned.{Spanned}
-use Rattle.vrl_token.specs.Placing.{InOrderFrom, spans_of}
+use Rattle.vrl_token.specs.Placing.{HolesStand, InOrderFrom, spans_of}
 use Rattle.vrl_word.specs.Words.{name_span}
 use Rattle.vrl_parse.specs.Reading.{Reads}
 use Rattle.vrl_check.specs.Apart.{at_place, nothing_weighs, one_if, same_span, weigh_exprs, AreApart}
@@ -35,14 +36,14 @@ behind_none {n = n} {to = to} start less count = fewer (0 + n) (omega arith) (wi
 block_none : {x y : ℕ} (span : Span) (n last : ℕ) → Count x y n (suc span.start) last → Count x y (0 + n) span.start last
 block_none span n last count = behind_none span.start (omega arith) count
 
-expressions_apart : (total : ℕ) (ts : List Spanned) (s : Script) → InOrderFrom 0 total (spans_of ts) → Reads ts s → (here : Span) → weigh_exprs (record nothing_weighs { expression = at_place here }) s.items ≤ 1
-expressions_apart total ts s ordered reads here =
+expressions_apart : (total : ℕ) (ts : List Spanned) (s : Script) → InOrderFrom 0 total (spans_of ts) → AllByRecursion (λ t. HolesStand t.token t.span) ts → Reads ts s → (here : Span) → weigh_exprs (record nothing_weighs { expression = at_place here }) s.items ≤ 1
+expressions_apart total ts s ordered holes reads here =
     at_most_one (script_fits here.start here.end 0 (record nothing_weighs { expression = at_place here }) (omega arith)
     (λ span n some within. same_or span here (λ k. Count here.start here.end (k + n) (span.start + 0) span.end) (λ start stop. own_here here span some start stop within) (own_none span within))
     (λ span bang n from to some behind order count. behind_none (span.start + 0) (omega (arith, some, behind)) count)
     (λ span n from to some at up count. behind_none span.start (omega (arith, at)) (widened from span.end (omega arith) up count))
     (λ span n last above count. block_none span n last count)
-    0 total reads.items (words_stand 0 0 total ts ordered))
+    0 total reads.items (words_stand 0 0 total ts ordered holes))
 
 name_here : {n from to : ℕ} (here span : Span) → span.start < span.end → span.end ≤ from → from ≤ to → span.start ≡ here.start → Count here.start (suc here.start) n from to → Count here.start (suc here.start) (1 + n) (span.start + 0) to
 name_here here span some behind order start (none zero) = single (omega (arith, zero)) (omega (arith, start)) (omega arith) (omega (arith, start, some, behind, order))
@@ -52,46 +53,46 @@ same_start : (span : Span) (bang : Bool) → (name_span span bang).start ≡ spa
 same_start span true = refl
 same_start span false = refl
 
-names_apart : (total : ℕ) (ts : List Spanned) (s : Script) → InOrderFrom 0 total (spans_of ts) → Reads ts s → (here : Span) → weigh_exprs (record nothing_weighs { name = at_place here }) s.items ≤ 1
-names_apart total ts s ordered reads here =
+names_apart : (total : ℕ) (ts : List Spanned) (s : Script) → InOrderFrom 0 total (spans_of ts) → AllByRecursion (λ t. HolesStand t.token t.span) ts → Reads ts s → (here : Span) → weigh_exprs (record nothing_weighs { name = at_place here }) s.items ≤ 1
+names_apart total ts s ordered holes reads here =
     at_most_one (script_fits here.start (suc here.start) 0 (record nothing_weighs { name = at_place here }) (omega arith)
     (λ span n some within. own_none span within)
     (λ span bang n from to some behind order count. same_or (name_span span bang) here (λ k. Count here.start (suc here.start) (k + n) (span.start + 0) to) (λ start stop. name_here here span some behind order (sym (same_start span bang) ∙ start) count) (behind_none (span.start + 0) (omega (arith, some, behind)) count))
     (λ span n from to some at up count. behind_none span.start (omega (arith, at)) (widened from span.end (omega arith) up count))
     (λ span n last above count. block_none span n last count)
-    0 total reads.items (words_stand 0 0 total ts ordered))
+    0 total reads.items (words_stand 0 0 total ts ordered holes))
 
 argument_here : {n from to : ℕ} (here span : Span) → span.start < span.end → span.start + 1 ≤ from → to ≤ span.end → span.start ≡ here.start → span.end ≡ here.end → Count here.start here.end n from to → Count here.start here.end (1 + n) span.start span.end
 argument_here here span some at up start stop (none zero) = single (omega (arith, zero)) (omega (arith, start)) (omega (arith, some, start, stop)) (omega (arith, stop))
 argument_here here span some at up start stop (single one first more last) = absurd (omega (arith, at, start, first))
 
-arguments_apart : (total : ℕ) (ts : List Spanned) (s : Script) → InOrderFrom 0 total (spans_of ts) → Reads ts s → (here : Span) → weigh_exprs (record nothing_weighs { argument = at_place here }) s.items ≤ 1
-arguments_apart total ts s ordered reads here =
+arguments_apart : (total : ℕ) (ts : List Spanned) (s : Script) → InOrderFrom 0 total (spans_of ts) → AllByRecursion (λ t. HolesStand t.token t.span) ts → Reads ts s → (here : Span) → weigh_exprs (record nothing_weighs { argument = at_place here }) s.items ≤ 1
+arguments_apart total ts s ordered holes reads here =
     at_most_one (script_fits here.start here.end 1 (record nothing_weighs { argument = at_place here }) (omega arith)
     (λ span n some within. own_none span within)
     (λ span bang n from to some behind order count. behind_none (span.start + 1) (omega (arith, some, behind)) count)
     (λ span n from to some at up count. same_or span here (λ k. Count here.start here.end (k + n) span.start span.end) (λ start stop. argument_here here span some at up start stop count) (behind_none span.start (omega (arith, at)) (widened from span.end (omega arith) up count)))
     (λ span n last above count. block_none span n last count)
-    0 total reads.items (words_stand 0 0 total ts ordered))
+    0 total reads.items (words_stand 0 0 total ts ordered holes))
 
 -- a block counts where it begins
 block_here : {n last : ℕ} (here span : Span) → span.start < last → span.start ≡ here.start → Count here.start (suc here.start) n (suc span.start) last → Count here.start (suc here.start) (1 + n) span.start last
 block_here here span above start (none zero) = single (omega (arith, zero)) (omega (arith, start)) (omega arith) (omega (arith, start, above))
 block_here here span above start (single one at more up) = absurd (omega (arith, start, at))
 
-closure_blocks_apart : (total : ℕ) (ts : List Spanned) (s : Script) → InOrderFrom 0 total (spans_of ts) → Reads ts s → (here : Span) → weigh_exprs (record nothing_weighs { closure_block = at_place here }) s.items ≤ 1
-closure_blocks_apart total ts s ordered reads here =
+closure_blocks_apart : (total : ℕ) (ts : List Spanned) (s : Script) → InOrderFrom 0 total (spans_of ts) → AllByRecursion (λ t. HolesStand t.token t.span) ts → Reads ts s → (here : Span) → weigh_exprs (record nothing_weighs { closure_block = at_place here }) s.items ≤ 1
+closure_blocks_apart total ts s ordered holes reads here =
     at_most_one (script_fits here.start (suc here.start) 0 (record nothing_weighs { closure_block = at_place here }) (omega arith)
     (λ span n some within. own_none span within)
     (λ span bang n from to some behind order count. behind_none (span.start + 0) (omega (arith, some, behind)) count)
     (λ span n from to some at up count. behind_none span.start (omega (arith, at)) (widened from span.end (omega arith) up count))
     (λ span n last above count. same_or span here (λ k. Count here.start (suc here.start) (k + n) span.start last) (λ start stop. block_here here span above start count) (block_none span n last count))
-    0 total reads.items (words_stand 0 0 total ts ordered))
+    0 total reads.items (words_stand 0 0 total ts ordered holes))
 
-pub parts_apart : (total : ℕ) (ts : List Spanned) (s : Script) → InOrderFrom 0 total (spans_of ts) → Reads ts s → AreApart s.items
-parts_apart total ts s ordered reads = record {
-  expressions = expressions_apart total ts s ordered reads;
-  names = names_apart total ts s ordered reads;
-  arguments = arguments_apart total ts s ordered reads;
-  closure_blocks = closure_blocks_apart total ts s ordered reads;
+pub parts_apart : (total : ℕ) (ts : List Spanned) (s : Script) → InOrderFrom 0 total (spans_of ts) → AllByRecursion (λ t. HolesStand t.token t.span) ts → Reads ts s → AreApart s.items
+parts_apart total ts s ordered holes reads = record {
+  expressions = expressions_apart total ts s ordered holes reads;
+  names = names_apart total ts s ordered holes reads;
+  arguments = arguments_apart total ts s ordered holes reads;
+  closure_blocks = closure_blocks_apart total ts s ordered holes reads;
 }

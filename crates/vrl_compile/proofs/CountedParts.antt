@@ -1,31 +1,33 @@
 -- What is counted in a script lies within the places of its words: each part stands between its first word and its last one, and fills this stretch
 -- with no single part of its own.
-use Rattle.std.proofs.Common.{◌≡◌, ℕ, suc, ◌+◌, ◌<◌, ◌≤◌, Bool, true, false, List, [], ◌∷◌, ◌++◌, Option, Some, if◌then◌else◌, length, bytes_eq, codes, subst, arith}
+use Rattle.std.proofs.Common.{◌≡◌, ℕ, suc, ◌+◌, ◌<◌, ◌≤◌, Bool, true, false, List, [], ◌∷◌, ◌++◌, Option, Some, if◌then◌else◌, length, bytes_eq, codes, ◌-◌, ◌&&◌, subst, arith}
+use Rattle.std.specs.List.{AllByRecursion}
 use Rattle.vrl_diag.specs.declared.diagnostic.Span.{Span}
 use Rattle.vrl_syntax.specs.Stores.{metadata}
 use Rattle.vrl_syntax.specs.Tree.{Args, Arms, Closure, Else, Expr, expr, Exprs, Form, Pairs, literal, array, object, read, query, group, block, conditional, negation, binary, assign, merge, both, call, return_of, abort_with, no_message, message, no_closure, span_of}
 use Rattle.vrl_syntax.specs.declared.root.Root.TheVariants as root
 use Rattle.vrl_syntax.specs.declared.root.Target.{Target}
 use Rattle.vrl_syntax.specs.declared.root.Target.TheVariants.{Nowhere, Place}
+use Rattle.vrl_token.specs.declared.token.Hole.{Hole}
 use Rattle.vrl_token.specs.declared.token.Spanned.{Spanned}
 use Rattle.vrl_token.specs.declared.token.Token.{Token}
 use Rattle.vrl_token.specs.declared.token.Token.TheVariants as token
-use Rattle.vrl_token.specs.Placing.{InOrderFrom, spans_of}
-use Rattle.vrl_word.specs.Words.{Word, name_span, over, regex_of, target_at, words_from}
-use Rattle.vrl_parse.specs.Grammar.{IsScript, no_items, separator, last_item, more_items, IsItem, both_targets, single as single_item, IsSingle, assigned, merged, returned, aborted, aborted_with, coalesce, IsLevel, tighter, joined, tightest, IsUnary, negated, primary, IsPrimary, a_literal, a_path, without_suffix, with_suffix, with_closure, an_object, a_block, an_if, MayHaveSuffix, a_call, an_array, a_group, IsCall, called, AreArgs, no_arguments, last_argument, more_arguments, IsArg, named, unnamed, IsClosure, a_closure, AreSingles, no_singles, last_single, more_singles, ArePairs, no_parts, last_pair, more_pairs, IsBlock, a_script, AreArms, last_arm, with_else, more_arms}
-use Rattle.vrl_check.specs.Apart.{weigh_args, weigh_arms, weigh_closure, weigh_else, weigh_expr, weigh_exprs, weigh_form, weigh_pairs, weigh_target, Weights}
+use Rattle.vrl_token.specs.Placing.{HolesFit, HolesStand, InOrderFrom, spans_of}
+use Rattle.vrl_word.specs.Words.{Word, hole_span, name_span, over, regex_of, target_at, template_at, text_at, with_hole, with_holes, words_from}
+use Rattle.vrl_parse.specs.Grammar.{IsScript, no_items, separator, last_item, more_items, IsItem, both_targets, single as single_item, IsSingle, assigned, merged, returned, aborted, aborted_with, coalesce, IsLevel, tighter, joined, tightest, IsUnary, negated, primary, IsPrimary, a_literal, a_template, a_path, without_suffix, with_suffix, with_closure, an_object, a_block, an_if, MayHaveSuffix, a_call, an_array, a_group, IsCall, called, AreArgs, no_arguments, last_argument, more_arguments, IsArg, named, unnamed, IsClosure, a_closure, AreSingles, no_singles, last_single, more_singles, ArePairs, no_parts, last_pair, more_pairs, IsBlock, a_script, AreArms, last_arm, with_else, more_arms}
+use Rattle.vrl_check.specs.Apart.{weigh_args, weigh_arms, weigh_closure, weigh_else, weigh_expr, weigh_exprs, weigh_form, weigh_pairs, weigh_target, weigh_within, is_quiet, is_sum, Weights}
 use Rattle.vrl_compile.proofs.Regions.{Count, nothing, fewer, widened, beside, Inside, no_part, part, inside, two_inside}
 
 -- ---- words in order
 
--- the words stand between these places, one behind another, and each has a byte
+-- the words stand between these places, one behind another, and each has a byte; the variables of a text stand in it
 abbrev pub Stand : ℕ → List Word → ℕ → Type 0
 Stand low [] high = low ≤ high
-Stand low (w ∷ ws) high = (low ≤ w.span.start) × (w.span.start < w.span.end) × Stand w.span.end ws high
+Stand low (w ∷ ws) high = (low ≤ w.span.start) × (w.span.start < w.span.end) × Stand w.span.end ws high × HolesStand w.token w.span
 
-pub words_stand : (n low high : ℕ) (ts : List Spanned) → InOrderFrom low high (spans_of ts) → Stand low (words_from n ts) high
-words_stand n low high [] is = is
-words_stand n low high (t ∷ ts) is = (is.0, is.1, words_stand (length (regex_of t.token) + n) t.span.end high ts is.2)
+pub words_stand : (n low high : ℕ) (ts : List Spanned) → InOrderFrom low high (spans_of ts) → AllByRecursion (λ t. HolesStand t.token t.span) ts → Stand low (words_from n ts) high
+words_stand n low high [] is holes = is
+words_stand n low high (t ∷ ts) is holes = (is.0, is.1, words_stand (length (regex_of t.token) + n) t.span.end high ts is.2 holes.1, holes.0)
 
 ascends : (low high : ℕ) (ws : List Word) → Stand low ws high → low ≤ high
 ascends low high [] is = is
@@ -38,7 +40,7 @@ record Parted (low high : ℕ) (ws vs : List Word) : Type 0 where
 
 parted : (low high : ℕ) (ws vs : List Word) → Stand low (ws ++ vs) high → Parted low high ws vs
 parted low high [] vs is = record { mid = low; front = omega arith; back = is }
-parted low high (w ∷ ws) vs is = let more = parted w.span.end high ws vs is.2 in record { mid = more.mid; front = (is.0, is.1, more.front); back = more.back }
+parted low high (w ∷ ws) vs is = let more = parted w.span.end high ws vs is.2 in record { mid = more.mid; front = (is.0, is.1, more.front, is.3); back = more.back }
 
 -- words between two that enclose them
 record Enclosed (low high : ℕ) (o c : Word) (ws : List Word) : Type 0 where
@@ -114,6 +116,13 @@ module _ (x y a : ℕ) (w : Weights) (small : a ≤ 1)
   made : (low high : ℕ) (span : Span) (f : Form) → low ≤ span.start → span.start < span.end → span.end ≤ high → Inside x y a (weigh_form w f) span.start span.end → Fits low high (expr span f)
   made low high span f from some to within = record { from = from; some = some; to = to; count = own span (weigh_form w f) some within }
 
+  -- what stands in a group or a sum counts no more than by itself
+  within_most : (quiet : Bool) (e : Expr) → weigh_within w quiet e ≤ weigh_expr w e
+  within_most quiet (expr span f) = by (quiet && is_quiet f) where
+    by : (b : Bool) → (if b then 0 else w.expression span) + weigh_form w f ≤ w.expression span + weigh_form w f
+    by true = omega arith
+    by false = omega arith
+
   -- one word, or what has no part that counts
   alone : (low high : ℕ) (span : Span) (f : Form) → low ≤ span.start → span.start < span.end → span.end ≤ high → weigh_form w f ≤ 0 → Fits low high (expr span f)
   alone low high span f from some to none_in_it = made low high span f from some to (no_part none_in_it)
@@ -153,6 +162,26 @@ module _ (x y a : ℕ) (w : Weights) (small : a ≤ 1)
 
   place_counts : (span : Span) → span.start < span.end → Count x y (w.expression span) (span.start + a) span.end
   place_counts span some = fewer (w.expression span) (omega arith) (own span 0 some (no_part (omega arith)))
+
+  -- the variables of a text, behind what a sum counts
+  holes_count : (s : Span) (n : ℕ) (sum : Expr) (holes : List Hole) → n ≤ s.end - s.start → HolesFit n holes → Count x y (weigh_within w true sum) (suc s.start) (s.end - n) →
+      Count x y (weigh_within w true (with_holes s sum holes)) (suc s.start) (s.end - 1)
+  holes_count s n sum [] most fit count = let some : 0 < n = fit in widened (suc s.start) (s.end - 1) (omega arith) (omega (arith, some)) count
+  holes_count s n sum (h ∷ holes) most fit count =
+      let before = fit.0 in
+      let some = fit.1 in
+      let last = fit.2 in
+      let own_place = place_counts (hole_span s h) (omega (arith, most, before, some, last)) in
+      holes_count s (h.distance - length h.name) (with_hole s sum h) holes (omega (arith, most, before)) fit.3
+      (fewer (weigh_within w true (with_hole s sum h)) (omega arith) (beside (omega (arith, most, before)) (omega (arith, most, before)) (omega (arith, most, before)) count own_place))
+
+  template_fits : (low high : ℕ) (t : Token) (s : Span) (e : Expr) → template_at t s ≡ Some e → HolesStand t s → low ≤ s.start → s.start < s.end → s.end ≤ high → Fits low high e
+  template_fits low high (token.Template before holes) s e is fit from some to =
+      let same : expr s (group (with_holes s (text_at s before) holes)) ≡ e = cc in
+      let first = fewer (weigh_within w true (text_at s before)) (omega arith) (nothing (suc s.start) (s.end - (s.end - s.start))) in
+      let parts = holes_count s (s.end - s.start) (text_at s before) holes (omega arith) fit first in
+      subst (Fits low high) same (made low high s (group (with_holes s (text_at s before) holes)) from some to (inside s.start s.end (omega (arith, small)) (omega arith) (omega (arith, some)) parts))
+  template_fits low high t s e is fit from some to = let wrong : ⊥ = cc in absurd wrong
 
   name_target : (b : Bool) (t u : Target) (span : Span) → span.start < span.end → Some (if b then Nowhere else u) ≡ Some t → (Count x y (weigh_target w u) (span.start + a) span.end) → Count x y (weigh_target w t) (span.start + a) span.end
   name_target true t u span some is count = let same : Nowhere ≡ t = cc in subst (λ v. Count x y (weigh_target w v) (span.start + a) span.end) same (nothing (span.start + a) span.end)
@@ -234,7 +263,9 @@ module _ (x y a : ℕ) (w : Weights) (small : a ≤ 1)
         let two = level_fits word.span.end high right parts.back.2 in
         let to = one.to in
         let from = two.from in
-        two_parts low high (weigh_expr w l) (weigh_expr w r) (span_of l) (span_of r) (binary o l r) one.from one.some (omega (arith, to, at, size, from)) two.some two.to (omega arith) one.count two.count
+        let left_most = within_most (is_sum o) l in
+        let right_most = within_most (is_sum o) r in
+        two_parts low high (weigh_expr w l) (weigh_expr w r) (span_of l) (span_of r) (binary o l r) one.from one.some (omega (arith, to, at, size, from)) two.some two.to (omega (arith, left_most, right_most)) one.count two.count
     level_fits low high (tightest it) stand = unary_fits low high it stand
 
     unary_fits : (low high : ℕ) {ws : List Word} {e : Expr} → IsUnary ws e → Stand low ws high → Fits low high e
@@ -243,6 +274,7 @@ module _ (x y a : ℕ) (w : Weights) (small : a ≤ 1)
 
     primary_fits : (low high : ℕ) {ws : List Word} {e : Expr} → IsPrimary ws e → Stand low ws high → Fits low high e
     primary_fits low high (a_literal {w = word} {v = v} is) stand = alone low high word.span (literal v) stand.0 stand.1 stand.2 (omega arith)
+    primary_fits low high (a_template {w = word} {e = e} is) stand = template_fits low high word.token word.span e is stand.3 stand.0 stand.1 (ascends word.span.end high [] stand.2)
     primary_fits low high (a_path {w = word} {r = r} {p = p} is) stand = alone low high word.span (read r p) stand.0 stand.1 stand.2 (omega arith)
     primary_fits low high (without_suffix it) stand = part_fits low high it stand
     primary_fits low high (with_suffix {ws = ws} {w = word} {p = p} {e = e} it is) stand =
@@ -287,7 +319,7 @@ module _ (x y a : ℕ) (w : Weights) (small : a ≤ 1)
         bracketed low high o c ws (array es) (weigh_exprs w es) parts (omega arith) (singles_fit o.span.end parts.mid it parts.within)
     part_fits low high (a_group {o = o} {c = c} {ws = ws} {e = e} opens it closes) stand =
         let parts = enclosed low high o c ws stand in
-        bracketed low high o c ws (group e) (weigh_expr w e + 0) parts (omega arith) (last_one o.span.end parts.mid e (item_fits o.span.end parts.mid it parts.within))
+        bracketed low high o c ws (group e) (weigh_expr w e + 0) parts (let most = within_most true e in omega (arith, most)) (last_one o.span.end parts.mid e (item_fits o.span.end parts.mid it parts.within))
 
     function_fits : (low high : ℕ) {ws : List Word} {f : List ℕ × Bool} {span stop : Span} {gs : Args} → IsCall ws f span gs stop → Stand low ws high → HoldsCall x y w low high span stop gs
     function_fits low high (called {w = word} {o = o} {c = c} {ws = ws} {gs = gs} is opens it closes) stand =

@@ -31,7 +31,7 @@ of_its_tags v K same p = found_in (tag_found (raw_at v p)) (tags_at K p) (same p
 -- the state in which a root has a kind, as a write of the whole root
 whole_written : (root : Root) (v : Tree) (K : KindTree) (known after : Option RootMap) (is : IsCutOf (found_at v) K) → after ≡ option_map (with_kind root K) known → IsWritten root [] is.whole known after
 whole_written root v K None after is same = same
-whole_written root v K (Some roots) after is same = (K, record { whole = is.whole; canonical = is.canonical; tags = λ p t. refl; cut = is.cut }, same)
+whole_written root v K (Some roots) after is same = (K, record { whole = is.whole; canonical = is.canonical; write = λ p t. refl; cut = is.cut }, same)
 
 -- what is left in a root stands there
 root_left : Laws → (root : Root) (K : KindTree) (known after : Option RootMap) (store : Store) → IsCutOf (found_at (left_in root)) K → after ≡ option_map (with_kind root K) known → FitsKnown store known

@@ -3,6 +3,7 @@ use Rattle.std.proofs.Common.{◌≡◌, ℕ, List, [], ◌∷◌, Result, Ok, E
 use Rattle.vrl_diag.specs.declared.diagnostic.Diagnostic.{Diagnostic}
 use Rattle.vrl_kind.specs.KindTree.{KindTree}
 use Rattle.vrl_syntax.specs.Tree.{Script}
+use Rattle.vrl_token.proofs.HolePlaces.{holes_stand}
 use Rattle.vrl_token.proofs.Placed.{tokens_in_order}
 use Rattle.vrl_token.specs.declared.token.Spanned.{Spanned}
 use Rattle.vrl_value.specs.declared.memory.Memory.{Memory as WantOfMemory}
@@ -16,7 +17,7 @@ use Rattle.vrl_compile.proofs.ApartParts.{parts_apart}
 use Rattle.vrl_compile.proofs.StrictOrder.{literals_strictly, one_alone, ordered_strictly}
 
 pub codes_once : NoCodeStandsTwice → CodesStandOnce
-codes_once law text tokens script is rules declared j judges = law rules declared script.items j (parts_apart (length text) tokens script (tokens_in_order text tokens is.tokenized.has) is.reads) judges
+codes_once law text tokens script is rules declared j judges = law rules declared script.items j (parts_apart (length text) tokens script (tokens_in_order text tokens is.tokenized.has) (holes_stand text tokens is.tokenized.has) is.reads) judges
 
 -- a list of one diagnostic
 pub alone_once : (diagnostics : List Diagnostic) (d : Diagnostic) → diagnostics ≡ d ∷ [] → StandOnce diagnostics

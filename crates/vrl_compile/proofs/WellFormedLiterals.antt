@@ -3,14 +3,15 @@ use Rattle.std.proofs.Common.{arith, ◌≡◌, ◌≤◌, ◌+◌, ℕ, Bool, t
 use Rattle.std.proofs.lemmas.Bool.{and_from, lt-ltb}
 use Rattle.std.proofs.lemmas.List.{length-append}
 use Rattle.vrl_diag.specs.declared.diagnostic.Span.{Span}
-use Rattle.vrl_syntax.specs.Tree.{Args, Arms, Closure, Else, Expr, Exprs, Pairs, Script}
+use Rattle.vrl_syntax.specs.Tree.{Args, Arms, Closure, Else, Expr, expr, Exprs, Pairs, Script, group}
+use Rattle.vrl_token.specs.declared.token.Hole.{Hole}
 use Rattle.vrl_token.specs.declared.token.Spanned.{Spanned}
 use Rattle.vrl_token.specs.declared.token.Token.{Token}
 use Rattle.vrl_token.specs.declared.token.Token.TheVariants as token
 use Rattle.vrl_value.specs.Tree.{Tree, string, integer, boolean, null, timestamp, regex}
-use Rattle.vrl_parse.specs.Grammar.{IsScript, no_items, separator, last_item, more_items, IsItem, both_targets, single as single_item, IsSingle, assigned, merged, returned, aborted, aborted_with, coalesce, IsLevel, tighter, joined, tightest, IsUnary, negated, primary, IsPrimary, a_literal, a_path, without_suffix, with_suffix, with_closure, an_object, a_block, an_if, MayHaveSuffix, a_call, an_array, a_group, IsCall, called, AreArgs, no_arguments, last_argument, more_arguments, IsArg, named, unnamed, IsClosure, a_closure, AreSingles, no_singles, last_single, more_singles, ArePairs, no_parts, last_pair, more_pairs, IsBlock, a_script, AreArms, last_arm, with_else, more_arms}
+use Rattle.vrl_parse.specs.Grammar.{IsScript, no_items, separator, last_item, more_items, IsItem, both_targets, single as single_item, IsSingle, assigned, merged, returned, aborted, aborted_with, coalesce, IsLevel, tighter, joined, tightest, IsUnary, negated, primary, IsPrimary, a_literal, a_template, a_path, without_suffix, with_suffix, with_closure, an_object, a_block, an_if, MayHaveSuffix, a_call, an_array, a_group, IsCall, called, AreArgs, no_arguments, last_argument, more_arguments, IsArg, named, unnamed, IsClosure, a_closure, AreSingles, no_singles, last_single, more_singles, ArePairs, no_parts, last_pair, more_pairs, IsBlock, a_script, AreArms, last_arm, with_else, more_arms}
 use Rattle.vrl_parse.specs.Reading.{Reads, sources_of}
-use Rattle.vrl_word.specs.Words.{Word, literal_at, regex_of, words_from}
+use Rattle.vrl_word.specs.Words.{Word, literal_at, regex_of, template_at, text_at, with_hole, with_holes, words_from}
 use Rattle.vrl_store.specs.WellFormed.{AreWellFormedArgs, AreWellFormedArms, AreWellFormedExprs, AreWellFormedPairs, IsWellFormed, IsWellFormedClosure, IsWellFormedElse, IsWellFormedExpr}
 use Rattle.vrl_compile.proofs.PassingWords.{Pass, back_pass, behind_pass, first_passes, front_pass, rest_pass}
 
@@ -47,6 +48,17 @@ literal_formed count token.False n v is low = let same : boolean false ≡ v = c
 literal_formed count token.Null n v is low = let same : null ≡ v = cc in subst (IsWellFormed count) same (record { ordered = tt; below = refl })
 literal_formed count t n v is low = let nothing : ⊥ = cc in absurd nothing
 
+-- the texts of a text with variables
+holes_formed : (count : ℕ) (s : Span) (sum : Expr) (holes : List Hole) → IsWellFormedExpr count sum → IsWellFormedExpr count (with_holes s sum holes)
+holes_formed count s sum [] formed = formed
+holes_formed count s sum (h ∷ holes) formed = holes_formed count s (with_hole s sum h) holes ((formed, tt), record { ordered = tt; below = refl })
+
+template_formed : (count : ℕ) (t : Token) (s : Span) (e : Expr) → template_at t s ≡ Some e → IsWellFormedExpr count e
+template_formed count (token.Template before holes) s e is =
+    let same : expr s (group (with_holes s (text_at s before) holes)) ≡ e = cc in
+    subst (IsWellFormedExpr count) same (holes_formed count s (text_at s before) holes (record { ordered = tt; below = refl }))
+template_formed count t s e is = let nothing : ⊥ = cc in absurd nothing
+
 mutual
   script_formed : (count : ℕ) {ws : List Word} {es : Exprs} → IsScript ws es → Pass (is_low count) ws → AreWellFormedExprs count es
   script_formed count no_items low = tt
@@ -78,6 +90,7 @@ mutual
 
   primary_formed : (count : ℕ) {ws : List Word} {e : Expr} → IsPrimary ws e → Pass (is_low count) ws → IsWellFormedExpr count e
   primary_formed count (a_literal {w = w} {v = v} is) low = literal_formed count w.token w.number v is (first_passes (is_low count) w [] low)
+  primary_formed count (a_template {w = w} {e = e} is) low = template_formed count w.token w.span e is
   primary_formed count (a_path is) low = tt
   primary_formed count (without_suffix it) low = part_formed count it low
   primary_formed count (with_suffix {ws = ws} {w = w} it is) low = part_formed count it (front_pass (is_low count) ws (w ∷ []) low)

@@ -74,7 +74,7 @@ pub record CanBeJudged (tokens : List Spanned) (script : Script) : Type 0 where
 -- the diagnostics of a script over events of a kind
 pub data AreOfScript (declared : KindTree) (tokens : List Spanned) (script : Script)
     (diagnostics : List Diagnostic) : Type 0 where
-  -- the first path that is written or deleted beyond the limits (1007, 1012)
+  -- the first path that is written or deleted beyond the limits (1012)
   beyond : (first : Diagnostic) (others : List Diagnostic) → exprs_faults script.items ≡ first ∷ others
       → diagnostics ≡ first ∷ [] → AreOfScript declared tokens script diagnostics
   -- regex literals are malformed

@@ -55,7 +55,7 @@ pub enum Compiled {
 /// The first of these steps that finds something wrong gives all the diagnostics, and each of the
 /// first four gives one: the first spelling at fault; tokens that are nested too deeply (1008);
 /// tokens in which the grammar reads no script (203); the first path that is written or deleted
-/// beyond the limits (1007, 1012); the regex literals that are malformed (101); the judgement.
+/// beyond the limits (1012); the regex literals that are malformed (101); the judgement.
 /// Diagnostics stand in the order of their starts, those of one start in the order of their ends,
 /// and those of one span in the order of their codes; none stands twice.
 ///

@@ -38,7 +38,6 @@ rows =
     row 1004 (codes "return in a closure") ∷
     row 1005 (codes "fallible predicate") ∷
     row 1006 (codes "event assigned neither an object nor an array") ∷
-    row 1007 (codes "negative index written or deleted") ∷
     row 1008 (codes "nested too deeply") ∷
     row 1009 (codes "script too long or not UTF-8") ∷
     row 1010 (codes "closure missing, unexpected or of the wrong shape") ∷
@@ -47,7 +46,7 @@ rows =
     row 1013 (codes "literal or path argument wanted") ∷
     row 1014 (codes "malformed timestamp literal") ∷
     row 1015 (codes "closure result of the wrong kind") ∷
-    row 1016 (codes "string template or too many regex literals") ∷
+    row 1016 (codes "malformed template or too many regex literals") ∷
     row 1017 (codes "metadata assigned no object") ∷
     []
 

@@ -52,8 +52,6 @@ pub const RETURN_IN_CLOSURE: u16 = 1004;
 pub const FALLIBLE_PREDICATE: u16 = 1005;
 /// event assigned neither an object nor an array
 pub const EVENT_ASSIGNED_NO_CONTAINER: u16 = 1006;
-/// negative index written or deleted
-pub const NEGATIVE_INDEX_WRITTEN: u16 = 1007;
 /// nested too deeply
 pub const NESTED_TOO_DEEPLY: u16 = 1008;
 /// script too long or not UTF-8
@@ -70,7 +68,7 @@ pub const LITERAL_OR_PATH_WANTED: u16 = 1013;
 pub const MALFORMED_TIMESTAMP: u16 = 1014;
 /// closure result of the wrong kind
 pub const WRONG_CLOSURE_RESULT: u16 = 1015;
-/// string template or too many regex literals
+/// malformed template or too many regex literals
 pub const TEMPLATE_OR_TOO_MANY_REGEXES: u16 = 1016;
 /// metadata assigned no object
 pub const METADATA_ASSIGNED_NO_OBJECT: u16 = 1017;

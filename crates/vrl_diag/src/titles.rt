@@ -14,7 +14,7 @@ struct Row {
 }
 
 // The codes, in ascending order.
-static ROWS: [Row; 36] = [
+static ROWS: [Row; 35] = [
     Row {
         code: code::UNHANDLED_ERROR,
         title: "unhandled error",
@@ -116,10 +116,6 @@ static ROWS: [Row; 36] = [
         title: "event assigned neither an object nor an array",
     },
     Row {
-        code: code::NEGATIVE_INDEX_WRITTEN,
-        title: "negative index written or deleted",
-    },
-    Row {
         code: code::NESTED_TOO_DEEPLY,
         title: "nested too deeply",
     },
@@ -153,7 +149,7 @@ static ROWS: [Row; 36] = [
     },
     Row {
         code: code::TEMPLATE_OR_TOO_MANY_REGEXES,
-        title: "string template or too many regex literals",
+        title: "malformed template or too many regex literals",
     },
     Row {
         code: code::METADATA_ASSIGNED_NO_OBJECT,

@@ -32,7 +32,7 @@ left_over r K None after canonical tags is =
     (cut.0, record { whole = K; canonical = canonical; tags = λ p t. ap (λ T. T t) (tags p); cut = cut.1 }, is)
 left_over r K (Some roots) after canonical tags is =
     let M = is.1 in
-    (is.0, record { whole = M.whole; canonical = M.canonical; tags = λ p t. M.tags p t ∙ ap (λ T. T t) (tags p); cut = M.cut }, is.2)
+    (is.0, record { whole = M.whole; canonical = M.canonical; tags = λ p t. M.write p t ∙ ap (λ T. T t) (tags p); cut = M.cut }, is.2)
 
 -- what is left in a root is never absent
 either_present : (b : Bool) → found_at (if b then object no_members else null) [] tag.Absent ≡ false

@@ -14,7 +14,7 @@ use Rattle.vrl_token.specs.declared.token.Token.{Token}
 use Rattle.vrl_token.specs.declared.token.Token.TheVariants as token
 use Rattle.vrl_word.specs.Words.{Word, path_of, target_at}
 use Rattle.vrl_parse.specs.Grammar.{IsScript}
-use Rattle.vrl_parse.specs.Descent.{Piece, sign_word, target_word, name_word, path_word, Said, Says, takes, Lacks, Look, at_end, next, before, expression_end, tightest, Begins, Sees, Operand, a_negation, a_call, an_array, a_group, an_object, a_block, an_if, a_path, a_literal, operand_at, operand_program, Rule, script, item, single, level, chain, operand, parts, pairs, arguments, argument, closing, names, more_names, braces, arms, Meaning, Program, done, refuse, take, look, by_operand, go, program_of, Ending, took, refused, Runs, ran, refuses, taken, untaken, seen, unseen, chosen, gone, not_gone}
+use Rattle.vrl_parse.specs.Descent.{Piece, sign_word, target_word, name_word, path_word, Said, Says, takes, Lacks, Look, at_end, next, before, expression_end, tightest, Begins, Sees, Operand, a_negation, a_call, an_array, a_group, an_object, a_block, an_if, a_path, a_template, a_literal, operand_at, operand_program, Rule, script, item, single, level, chain, operand, parts, pairs, arguments, argument, closing, names, more_names, braces, arms, Meaning, Program, done, refuse, take, look, by_operand, go, program_of, Ending, took, refused, Runs, ran, refuses, taken, untaken, seen, unseen, chosen, gone, not_gone}
 use Rattle.vrl_parse.specs.FirstWords.{Holds}
 use Rattle.vrl_parse.proofs.Beginnings.{path_operand_of}
 use Rattle.vrl_parse.proofs.Descended.{script_is_taken}
@@ -172,6 +172,7 @@ operand_fair an_object = ((λ _ _ _. ((λ _ _. tt), tt)), tt)
 operand_fair a_block = λ _. tt
 operand_fair an_if = ((λ _ _ _. tt), tt)
 operand_fair a_path = ((λ _ _. tt), tt)
+operand_fair a_template = ((λ _ _. tt), tt)
 operand_fair a_literal = ((λ _ _. tt), tt)
 
 rule_fair : (r : Rule) → Fair r (program_of r)

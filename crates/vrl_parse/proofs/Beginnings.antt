@@ -11,9 +11,9 @@ use Rattle.vrl_syntax.specs.declared.root.Target.{Target}
 use Rattle.vrl_token.specs.declared.token.Token.{Token}
 use Rattle.vrl_token.specs.declared.token.Token.TheVariants as token
 use Rattle.vrl_value.specs.Tree.{Tree}
-use Rattle.vrl_word.specs.Words.{Word, function_of, literal_of, operator_of, path_of, target_at}
-use Rattle.vrl_parse.specs.Grammar.{IsItem, both_targets, single as single_item, IsSingle, assigned, merged, returned, aborted, aborted_with, coalesce, IsLevel, tighter, joined, tightest as tightest_level, IsUnary, negated, primary, IsPrimary, a_literal as literal_operand, a_path as path_operand, without_suffix, with_suffix, with_closure, an_object as object_operand, a_block as block_operand, an_if as if_operand, MayHaveSuffix, a_call as call_operand, an_array as array_operand, a_group as group_operand, called, IsArg, named, unnamed, IsBlock, a_script}
-use Rattle.vrl_parse.specs.Descent.{sign_word, name_word, path_word, suffix_word, operator_word, Lacks, at_end, before, expression_end, ends_expression, Begins, Sees, a_call, a_path, a_literal, operand_of}
+use Rattle.vrl_word.specs.Words.{Word, function_of, literal_of, operator_of, path_of, target_at, template_at}
+use Rattle.vrl_parse.specs.Grammar.{IsItem, both_targets, single as single_item, IsSingle, assigned, merged, returned, aborted, aborted_with, coalesce, IsLevel, tighter, joined, tightest as tightest_level, IsUnary, negated, primary, IsPrimary, a_literal as literal_operand, a_template as template_operand, a_path as path_operand, without_suffix, with_suffix, with_closure, an_object as object_operand, a_block as block_operand, an_if as if_operand, MayHaveSuffix, a_call as call_operand, an_array as array_operand, a_group as group_operand, called, IsArg, named, unnamed, IsBlock, a_script}
+use Rattle.vrl_parse.specs.Descent.{sign_word, name_word, path_word, suffix_word, operator_word, Lacks, at_end, before, expression_end, ends_expression, Begins, Sees, a_call, a_path, a_template, a_literal, operand_of}
 
 -- ---- single tokens
 
@@ -37,6 +37,7 @@ opening (token.NamePath n path) = path_opens
 opening (token.EventPath path) = path_opens
 opening (token.MetadataPath path) = path_opens
 opening (token.Text s) = operand_opens
+opening (token.Template first holes) = operand_opens
 opening (token.RawText s) = operand_opens
 opening (token.Regex s) = operand_opens
 opening (token.Timestamp moment) = operand_opens
@@ -108,6 +109,14 @@ literal_opening t s n e = cc
 pub literal_operand_of : (t : Token) (s : Span) (n : ℕ) {v : Tree} → literal_of (record { token = t; span = s; number = n }) ≡ Some v → operand_of t ≡ a_literal
 literal_operand_of token.Separator s n e = cc
 literal_operand_of t s n e = cc
+
+template_opening : (t : Token) (s : Span) {e : Expr} → template_at t s ≡ Some e → opening t ≡ operand_opens
+template_opening token.Separator s e = cc
+template_opening t s e = cc
+
+pub template_operand_of : (t : Token) (s : Span) {e : Expr} → template_at t s ≡ Some e → operand_of t ≡ a_template
+template_operand_of token.Separator s e = cc
+template_operand_of t s e = cc
 
 -- a target is a path or a name
 pub target_path : (t : Token) (s : Span) {x : Target} → target_at t s ≡ Some x → (p : Root × List Step) × (path_of t ≡ Some p)
@@ -220,6 +229,7 @@ heads_block (a_script io h ic) = ap opening io.is
 
 leads_primary : {us : List Word} {e : Expr} → IsPrimary us e → Leads us
 leads_primary (literal_operand {w = w} e) = inl (literal_opening w.token w.span w.number e)
+leads_primary (template_operand {w = w} e) = inl (template_opening w.token w.span e)
 leads_primary (path_operand {w = w} e) = inr (path_opening w.token e, tt)
 leads_primary {us = us} (without_suffix h) = heads_lead us (heads_suffixable h)
 leads_primary (with_suffix {ws = ws} {w = w} h is) = heads_lead (ws ++ w ∷ []) (heads_more ws (w ∷ []) (heads_suffixable h))

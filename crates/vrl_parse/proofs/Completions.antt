@@ -4,16 +4,16 @@ use Rattle.std.proofs.lemmas.Bool.{and_parts, lt-ltb, ltb-false, ltb-true}
 use Rattle.std.proofs.lemmas.List.{append-nil, append_assoc}
 use Rattle.vrl_diag.specs.declared.diagnostic.Span.{Span}
 use Rattle.vrl_path.specs.declared.path.Step.TheVariants.{Field}
-use Rattle.vrl_syntax.specs.Tree.{Expr, expr, literal, no_exprs, no_pairs, no_arms, arm, no_else, no_args}
+use Rattle.vrl_syntax.specs.Tree.{Expr, expr, literal, group, no_exprs, no_pairs, no_arms, arm, no_else, no_args}
 use Rattle.vrl_syntax.specs.declared.root.Op.TheVariants as op
 use Rattle.vrl_syntax.specs.declared.root.Root.TheVariants as root
 use Rattle.vrl_syntax.specs.declared.root.Target.TheVariants as target
 use Rattle.vrl_token.specs.declared.token.Token.{Token}
 use Rattle.vrl_token.specs.declared.token.Token.TheVariants as token
-use Rattle.vrl_value.specs.Tree.{null as null_value}
+use Rattle.vrl_value.specs.Tree.{null as null_value, string}
 use Rattle.vrl_word.specs.Words.{Word}
 use Rattle.vrl_parse.specs.Grammar.{one_name, IsScript, no_items, single as single_item, IsSingle, coalesce, IsLevel, tighter, tightest as tightest_level, IsUnary, primary, a_literal as literal_operand, no_arguments, unnamed, a_closure, no_singles, no_parts, IsBlock, a_script, last_arm}
-use Rattle.vrl_parse.specs.Descent.{Piece, sign_word, target_word, name_word, key_word, function_word, path_word, literal_word, suffix_word, operator_word, Said, Says, takes, Sees, Operand, a_negation, a_call, an_array, a_group, an_object, a_block, an_if, a_path, a_literal, operand_program, Rule, script, item, single, level, chain, operand, parts, pairs, arguments, argument, closing, names, more_names, braces, arms, Meaning, Program, done, refuse, take, look, by_operand, go, program_of, refused, Runs, refuses, taken, untaken, seen, unseen, chosen, gone, not_gone, RuleRefuses}
+use Rattle.vrl_parse.specs.Descent.{Piece, sign_word, target_word, name_word, key_word, function_word, path_word, literal_word, template_word, suffix_word, operator_word, Said, Says, takes, Sees, Operand, a_negation, a_call, an_array, a_group, an_object, a_block, an_if, a_path, a_template, a_literal, operand_program, Rule, script, item, single, level, chain, operand, parts, pairs, arguments, argument, closing, names, more_names, braces, arms, Meaning, Program, done, refuse, take, look, by_operand, go, program_of, refused, Runs, refuses, taken, untaken, seen, unseen, chosen, gone, not_gone, RuleRefuses}
 use Rattle.vrl_parse.proofs.Beginnings.{operator_low}
 use Rattle.vrl_parse.proofs.Spelled.{Front, Keeps, Spells, add_word, kept, rule_keeps}
 
@@ -71,6 +71,7 @@ filler key_word = token.Text a_name
 filler function_word = token.Function a_name
 filler path_word = token.EventPath []
 filler literal_word = token.Null
+filler template_word = token.Template [] []
 filler suffix_word = token.Suffix (Field a_name ∷ [])
 filler (operator_word n) = token.Plus
 
@@ -82,6 +83,7 @@ filled key_word = a_name
 filled function_word = (a_name, false)
 filled path_word = (root.Event, [])
 filled literal_word = null_value
+filled template_word = expr no_place (group (expr no_place (literal (string []))))
 filled suffix_word = Field a_name ∷ []
 filled (operator_word n) = op.Plus
 
@@ -98,6 +100,7 @@ filler_says key_word n can = record { is = refl }
 filler_says function_word n can = refl
 filler_says path_word n can = refl
 filler_says literal_word n can = refl
+filler_says template_word n can = refl
 filler_says suffix_word n can = record { is = refl }
 filler_says (operator_word m) n can = cc
 
@@ -257,6 +260,7 @@ operand_sure an_object = ((λ _ _ _. (refl, (refl, λ _. (refl, ((λ _ _ _. (ref
 operand_sure a_block = (refl, λ _. (refl, tt))
 operand_sure an_if = ((λ _ _ _. (refl, (refl, λ _. (refl, tt)))), tt)
 operand_sure a_path = ((λ _ _ _. (refl, tt)), tt)
+operand_sure a_template = ((λ _ _ _. (refl, tt)), tt)
 operand_sure a_literal = ((λ _ _ _. (refl, tt)), tt)
 
 rule_sure : (r : Rule) → can_be r ≡ true → Sure (program_of r)

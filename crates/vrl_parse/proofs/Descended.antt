@@ -6,10 +6,10 @@ use Rattle.vrl_syntax.specs.Tree.{Expr, expr, Exprs, no_exprs, exprs, Pairs, Arm
 use Rattle.vrl_token.specs.declared.token.Token.{Token}
 use Rattle.vrl_token.specs.declared.token.Token.TheVariants as token
 use Rattle.vrl_word.specs.Words.{Word, path_of, operator_of, name_span, over}
-use Rattle.vrl_parse.specs.Grammar.{Is, AreNames, one_name, more_names as more_than_one_name, IsScript, no_items, separator, last_item, more_items, IsItem, both_targets, single as single_item, IsSingle, assigned, merged, returned, aborted, aborted_with, coalesce, IsLevel, tighter, joined, tightest as tightest_level, IsUnary, negated, primary, IsPrimary, a_literal as literal_operand, a_path as path_operand, without_suffix, with_suffix, with_closure, an_object as object_operand, a_block as block_operand, an_if as if_operand, MayHaveSuffix, a_call as call_operand, an_array as array_operand, a_group as group_operand, IsCall, called, AreArgs, no_arguments, last_argument, more_arguments, IsArg, named, unnamed, IsClosure, a_closure, AreSingles, no_singles, last_single, more_singles, ArePairs, no_parts, last_pair, more_pairs, IsBlock, a_script, AreArms, last_arm, with_else, more_arms}
+use Rattle.vrl_parse.specs.Grammar.{Is, AreNames, one_name, more_names as more_than_one_name, IsScript, no_items, separator, last_item, more_items, IsItem, both_targets, single as single_item, IsSingle, assigned, merged, returned, aborted, aborted_with, coalesce, IsLevel, tighter, joined, tightest as tightest_level, IsUnary, negated, primary, IsPrimary, a_literal as literal_operand, a_template as template_operand, a_path as path_operand, without_suffix, with_suffix, with_closure, an_object as object_operand, a_block as block_operand, an_if as if_operand, MayHaveSuffix, a_call as call_operand, an_array as array_operand, a_group as group_operand, IsCall, called, AreArgs, no_arguments, last_argument, more_arguments, IsArg, named, unnamed, IsClosure, a_closure, AreSingles, no_singles, last_single, more_singles, ArePairs, no_parts, last_pair, more_pairs, IsBlock, a_script, AreArms, last_arm, with_else, more_arms}
 use Rattle.vrl_parse.specs.Descent.{sign_word, takes, Lacks, expression_end, tightest, ends_expression, Begins, Sees, operand_of, a_block, operand_at, calling, suffixed, script, item, single, level, chain, operand, parts, pairs, arguments, argument, names, more_names, braces, arms, done, take, go, program_of, Ending, took, Runs, ran, taken, untaken, seen, unseen, chosen, gone, RuleTakes}
 use Rattle.vrl_parse.proofs.OneEnding.{one_ending}
-use Rattle.vrl_parse.proofs.Beginnings.{goes_on, path_operand_of, function_operand_of, literal_operand_of, target_path, Stops, weaker, ends_stop, operator_stops, no_suffix, no_going, no_operator, no_tight_operator, no_sign, other_sign, sign_ends, Opens, opens_more, leads_level, opens_single, opens_item, opens_argument, no_expression_end, no_ending, no_end, no_leading, no_path_before, no_single_before, name_is_path}
+use Rattle.vrl_parse.proofs.Beginnings.{goes_on, path_operand_of, function_operand_of, literal_operand_of, template_operand_of, target_path, Stops, weaker, ends_stop, operator_stops, no_suffix, no_going, no_operator, no_tight_operator, no_sign, other_sign, sign_ends, Opens, opens_more, leads_level, opens_single, opens_item, opens_argument, no_expression_end, no_ending, no_end, no_leading, no_path_before, no_single_before, name_is_path}
 
 -- what stands behind a script
 abbrev pub Closes : List Word → Type 0
@@ -124,6 +124,7 @@ mutual
 
   primary_runs : {us : List Word} {e : Expr} → IsPrimary us e → (n : ℕ) (vs : List Word) → Stops n vs → RuleTakes operand (us ++ vs) e vs
   primary_runs (literal_operand {w = w} e) n vs stops = chosen (literal_operand_of w.token w.span w.number e) (taken (takes _ e) ran)
+  primary_runs (template_operand {w = w} e) n vs stops = chosen (template_operand_of w.token w.span e) (taken (takes _ e) ran)
   primary_runs (path_operand {w = w} e) n vs stops = chosen (path_operand_of w.token e) (taken (takes _ e) ran)
   primary_runs (without_suffix h) n vs stops = suffixable_runs h vs _ (no_going n vs token.Arrow refl stops) (untaken (no_suffix n vs stops) ran)
   primary_runs (with_suffix {ws = ws} {w = w} h is) n vs stops = rw (append_assoc ws (w ∷ []) vs) (suffixable_runs h (w ∷ vs) _ (λ b. cc (b.is, is.is)) (taken (takes _ is) ran))

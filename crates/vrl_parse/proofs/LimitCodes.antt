@@ -1,7 +1,7 @@
 -- The codes of what is wrong with tokens.
-use Rattle.std.proofs.Common.{◌≡◌, ◌⊎◌, inl, inr, ℕ, Bool, true, false, ◌&&◌, ◌||◌, ◌==◌, List, [], ◌∷◌, ◌++◌, if◌then◌else◌, Some, None, option_to_list, refl, sym, ◌∙◌, subst, arith}
+use Rattle.std.proofs.Common.{◌≡◌, ℕ, Bool, true, false, ◌&&◌, ◌==◌, List, [], ◌∷◌, ◌++◌, if◌then◌else◌, Some, None, option_to_list, refl, sym, ◌∙◌, subst, arith}
 use Rattle.std.specs.List.{Contains, list_all}
-use Rattle.std.proofs.lemmas.Bool.{and_from, and_parts, eqb-true, or_cases}
+use Rattle.std.proofs.lemmas.Bool.{and_from, and_parts, eqb-true}
 use Rattle.std.proofs.lemmas.List.Folds.{list_all-append}
 use Rattle.vrl_diag.specs.declared.diagnostic.Diagnostic.{Diagnostic}
 use Rattle.vrl_diag.specs.declared.diagnostic.Span.{Span}
@@ -14,7 +14,7 @@ use Rattle.vrl_token.specs.TokenList.{TokenList}
 use Rattle.vrl_parse.specs.Reading.{IsScriptFault, no_script, path_fault, parse_codes}
 
 abbrev is_limit : Diagnostic → Bool
-is_limit d = (d.code == 1007) || (d.code == 1012)
+is_limit d = d.code == 1012
 
 abbrev AreLimits : List Diagnostic → Type 0
 AreLimits ds = list_all is_limit ds ≡ true
@@ -22,17 +22,16 @@ AreLimits ds = list_all is_limit ds ≡ true
 both_limits : (ds es : List Diagnostic) → AreLimits ds → AreLimits es → AreLimits (ds ++ es)
 both_limits ds es one two = list_all-append is_limit ds es ∙ and_from _ _ one two
 
-path_limits : (span : Span) (negative large : Bool) → AreLimits (option_to_list (if negative then Some (record { code = 1007; span = span }) else (if large then Some (record { code = 1012; span = span }) else None)))
-path_limits span true large = refl
-path_limits span false true = refl
-path_limits span false false = refl
+path_limits : (span : Span) (beyond : Bool) → AreLimits (option_to_list (if beyond then Some (record { code = 1012; span = span }) else None))
+path_limits span true = refl
+path_limits span false = refl
 
 target_limits : (t : Target) → AreLimits (target_faults t)
 target_limits target.Nowhere = refl
-target_limits (target.Place span root path) = path_limits span _ _
+target_limits (target.Place span root path) = path_limits span _
 
 deleted_limits : (e : Expr) → AreLimits (path_faults e)
-deleted_limits (expr span (read root path)) = path_limits span _ _
+deleted_limits (expr span (read root path)) = path_limits span _
 deleted_limits e = refl
 
 where_deleted : (deleted : Bool) (e : Expr) → AreLimits (if deleted then path_faults e else [])
@@ -91,18 +90,13 @@ mutual
   message_limits (message e) = expr_limits e
 
 -- a code of these paths is one that the parser gives
-limit_code : (n : ℕ) → (n ≡ 1007) ⊎ (n ≡ 1012) → Contains parse_codes n
-limit_code n (inl is) = (1, omega arith, sym is)
-limit_code n (inr is) = (2, omega arith, sym is)
-
-which_limit : (n : ℕ) → (n == 1007) ≡ true ⊎ (n == 1012) ≡ true → (n ≡ 1007) ⊎ (n ≡ 1012)
-which_limit n (inl is) = inl (eqb-true n 1007 is)
-which_limit n (inr is) = inr (eqb-true n 1012 is)
+limit_code : (n : ℕ) → n ≡ 1012 → Contains parse_codes n
+limit_code n is = (1, omega arith, sym is)
 
 first_code : (ds : List Diagnostic) (d : Diagnostic) (es : List Diagnostic) → AreLimits ds → ds ≡ d ∷ es → Contains parse_codes d.code
 first_code ds d es all is =
     let each : (is_limit d && list_all is_limit es) ≡ true = subst AreLimits is all in
-    limit_code d.code (which_limit d.code (or_cases (d.code == 1007) (d.code == 1012) (and_parts (is_limit d) (list_all is_limit es) each).0))
+    limit_code d.code (eqb-true d.code 1012 (and_parts (is_limit d) (list_all is_limit es) each).0)
 
 pub wrong_code : (tokens : TokenList) (d : Diagnostic) → IsScriptFault tokens d → Contains parse_codes d.code
 wrong_code tokens d (no_script is none place) = (0, omega arith, sym is)

@@ -6,15 +6,16 @@ use Rattle.std.proofs.lemmas.List.{length-append}
 use Rattle.std.proofs.lemmas.List.Folds.{list_all-append}
 use Rattle.vrl_diag.specs.declared.diagnostic.Span.{Span}
 use Rattle.vrl_syntax.specs.Regexes.{args_regexes_below, arms_regexes_below, closure_regexes_below, else_regexes_below, expr_regexes_below, exprs_regexes_below, pairs_regexes_below}
-use Rattle.vrl_syntax.specs.Tree.{Args, Arms, Closure, Else, Expr, Exprs, Pairs, Script}
+use Rattle.vrl_syntax.specs.Tree.{Args, Arms, Closure, Else, Expr, expr, Exprs, Pairs, Script, group}
+use Rattle.vrl_token.specs.declared.token.Hole.{Hole}
 use Rattle.vrl_token.specs.declared.token.Spanned.{Spanned}
 use Rattle.vrl_token.specs.declared.token.Token.{Token}
 use Rattle.vrl_token.specs.declared.token.Token.TheVariants as token
 use Rattle.vrl_value.specs.Regexes.{regexes_below}
 use Rattle.vrl_value.specs.Tree.{Tree, string, integer, boolean, null, timestamp, regex}
-use Rattle.vrl_parse.specs.Grammar.{IsScript, no_items, separator, last_item, more_items, IsItem, both_targets, single as single_item, IsSingle, assigned, merged, returned, aborted, aborted_with, coalesce, IsLevel, tighter, joined, tightest, IsUnary, negated, primary, IsPrimary, a_literal, a_path, without_suffix, with_suffix, with_closure, an_object, a_block, an_if, MayHaveSuffix, a_call, an_array, a_group, IsCall, called, AreArgs, no_arguments, last_argument, more_arguments, IsArg, named, unnamed, IsClosure, a_closure, AreSingles, no_singles, last_single, more_singles, ArePairs, no_parts, last_pair, more_pairs, IsBlock, a_script, AreArms, last_arm, with_else, more_arms}
+use Rattle.vrl_parse.specs.Grammar.{IsScript, no_items, separator, last_item, more_items, IsItem, both_targets, single as single_item, IsSingle, assigned, merged, returned, aborted, aborted_with, coalesce, IsLevel, tighter, joined, tightest, IsUnary, negated, primary, IsPrimary, a_literal, a_template, a_path, without_suffix, with_suffix, with_closure, an_object, a_block, an_if, MayHaveSuffix, a_call, an_array, a_group, IsCall, called, AreArgs, no_arguments, last_argument, more_arguments, IsArg, named, unnamed, IsClosure, a_closure, AreSingles, no_singles, last_single, more_singles, ArePairs, no_parts, last_pair, more_pairs, IsBlock, a_script, AreArms, last_arm, with_else, more_arms}
 use Rattle.vrl_parse.specs.Reading.{Reads, sources_of}
-use Rattle.vrl_word.specs.Words.{Word, literal_at, regex_of, words_from}
+use Rattle.vrl_word.specs.Words.{Word, literal_at, regex_of, template_at, text_at, with_hole, with_holes, words_from}
 
 -- ---- the numbers of words
 
@@ -65,6 +66,17 @@ literal_low count token.False n v is low = let same : v ≡ boolean false = cc i
 literal_low count token.Null n v is low = let same : v ≡ null = cc in ap (regexes_below count) same
 literal_low count t n v is low = let nothing : ⊥ = cc in absurd nothing
 
+-- a text with variables has no regex
+holes_low : (count : ℕ) (s : Span) (sum : Expr) (holes : List Hole) → expr_regexes_below count sum ≡ true → expr_regexes_below count (with_holes s sum holes) ≡ true
+holes_low count s sum [] low = low
+holes_low count s sum (h ∷ holes) low = holes_low count s (with_hole s sum h) holes (and_from _ true (and_from _ true low refl) refl)
+
+template_low : (count : ℕ) (t : Token) (s : Span) (e : Expr) → template_at t s ≡ Some e → expr_regexes_below count e ≡ true
+template_low count (token.Template before holes) s e is =
+    let same : expr s (group (with_holes s (text_at s before) holes)) ≡ e = cc in
+    subst (λ x. expr_regexes_below count x ≡ true) same (holes_low count s (text_at s before) holes refl)
+template_low count t s e is = let nothing : ⊥ = cc in absurd nothing
+
 -- a predicate, its block, and what stands behind them
 arm_from : (p b a o : Bool) → p ≡ true → b ≡ true → (a && o) ≡ true → ((p && (b && a)) && o) ≡ true
 arm_from p b a o one two three = let parts = and_parts a o three in and_from (p && (b && a)) o (and_from p (b && a) one (and_from b a two parts.0)) parts.1
@@ -100,6 +112,7 @@ mutual
 
   primary_low : (count : ℕ) {ws : List Word} {e : Expr} → IsPrimary ws e → are_low count ws ≡ true → expr_regexes_below count e ≡ true
   primary_low count (a_literal {w = w} {v = v} is) low = literal_low count w.token w.number v is (first_low count w [] low)
+  primary_low count (a_template {w = w} {e = e} is) low = template_low count w.token w.span e is
   primary_low count (a_path is) low = refl
   primary_low count (without_suffix it) low = part_low count it low
   primary_low count (with_suffix {ws = ws} {w = w} it is) low = part_low count it (front_low count ws (w ∷ []) low)

@@ -3,7 +3,7 @@ use Rattle.std.proofs.Common.{◌≡◌, ℕ, Option, Some, List, refl, sym, ap,
 use Rattle.vrl_diag.specs.declared.diagnostic.Span.{Span}
 use Rattle.vrl_syntax.specs.declared.root.Op.{Op}
 use Rattle.vrl_word.specs.Words.{Word}
-use Rattle.vrl_parse.specs.Descent.{Piece, sign_word, target_word, name_word, key_word, function_word, path_word, literal_word, suffix_word, operator_word, Said, Says, Takes, takes, Lacks, Rule, Meaning, Program, Ending, took, refused, Runs, ran, refuses, taken, untaken, seen, unseen, chosen, gone, not_gone}
+use Rattle.vrl_parse.specs.Descent.{Piece, sign_word, target_word, name_word, key_word, function_word, path_word, literal_word, template_word, suffix_word, operator_word, Said, Says, Takes, takes, Lacks, Rule, Meaning, Program, Ending, took, refused, Runs, ran, refuses, taken, untaken, seen, unseen, chosen, gone, not_gone}
 
 one_operator : {a : Option (ℕ × Op)} {n : ℕ} {v u : Op} → a ≡ Some (n, v) → a ≡ Some (n, u) → v ≡ u
 one_operator {n = n} {v = v} {u = u} f g =
@@ -21,6 +21,7 @@ one_saying key_word w v u f g = cc (f.is, g.is)
 one_saying function_word w v u f g = cc
 one_saying path_word w v u f g = cc
 one_saying literal_word w v u f g = cc
+one_saying template_word w v u f g = cc
 one_saying suffix_word w v u f g = cc (f.is, g.is)
 one_saying (operator_word n) w v u f g = one_operator f g
 

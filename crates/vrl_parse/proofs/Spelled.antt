@@ -4,8 +4,8 @@ use Rattle.std.proofs.lemmas.List.{append-nil, append_assoc}
 use Rattle.vrl_syntax.specs.Tree.{expr, Exprs, Args, call, no_closure, closure}
 use Rattle.vrl_token.specs.declared.token.Token.TheVariants as token
 use Rattle.vrl_word.specs.Words.{Word, function_of, name_span, over}
-use Rattle.vrl_parse.specs.Grammar.{Is, AreNames, one_name, more_names as more_than_one_name, IsScript, no_items, separator, last_item, more_items, IsItem, both_targets, single as single_item, IsSingle, assigned, merged, returned, aborted, aborted_with, coalesce, IsLevel, tighter, joined, tightest as tightest_level, IsUnary, negated, primary, a_literal as literal_operand, a_path as path_operand, without_suffix, with_suffix, with_closure, an_object as object_operand, a_block as block_operand, an_if as if_operand, MayHaveSuffix, a_call as call_operand, an_array as array_operand, a_group as group_operand, called, AreArgs, no_arguments, last_argument, more_arguments, IsArg, named, unnamed, IsClosure, a_closure, AreSingles, no_singles, last_single, more_singles, ArePairs, no_parts, last_pair, more_pairs, IsBlock, a_script, AreArms, last_arm, with_else, more_arms}
-use Rattle.vrl_parse.specs.Descent.{Said, Says, takes, Sees, Operand, a_negation, a_call, an_array, a_group, an_object, a_block, an_if, a_path, a_literal, operand_program, Rule, script, item, single, level, chain, operand, parts, pairs, arguments, argument, closing, names, more_names, braces, arms, Meaning, Program, done, refuse, take, look, by_operand, go, program_of, took, Runs, ran, taken, untaken, seen, unseen, chosen, gone, RuleTakes}
+use Rattle.vrl_parse.specs.Grammar.{Is, AreNames, one_name, more_names as more_than_one_name, IsScript, no_items, separator, last_item, more_items, IsItem, both_targets, single as single_item, IsSingle, assigned, merged, returned, aborted, aborted_with, coalesce, IsLevel, tighter, joined, tightest as tightest_level, IsUnary, negated, primary, a_literal as literal_operand, a_template as template_operand, a_path as path_operand, without_suffix, with_suffix, with_closure, an_object as object_operand, a_block as block_operand, an_if as if_operand, MayHaveSuffix, a_call as call_operand, an_array as array_operand, a_group as group_operand, called, AreArgs, no_arguments, last_argument, more_arguments, IsArg, named, unnamed, IsClosure, a_closure, AreSingles, no_singles, last_single, more_singles, ArePairs, no_parts, last_pair, more_pairs, IsBlock, a_script, AreArms, last_arm, with_else, more_arms}
+use Rattle.vrl_parse.specs.Descent.{Said, Says, takes, Sees, Operand, a_negation, a_call, an_array, a_group, an_object, a_block, an_if, a_path, a_template, a_literal, operand_program, Rule, script, item, single, level, chain, operand, parts, pairs, arguments, argument, closing, names, more_names, braces, arms, Meaning, Program, done, refuse, take, look, by_operand, go, program_of, took, Runs, ran, taken, untaken, seen, unseen, chosen, gone, RuleTakes}
 
 -- what the grammar says of the words that a rule took
 abbrev pub Spells : (r : Rule) → List Word → Meaning r → Type 0
@@ -102,6 +102,7 @@ operand_keeps an_object = ((λ o _ io. λ us ps h. ((λ c _ ic. primary (object_
 operand_keeps a_block = λ us b h. rw append-nil (primary (block_operand h))
 operand_keeps an_if = ((λ w _ is. λ us a h. rw append-nil (primary (if_operand is h))), tt)
 operand_keeps a_path = ((λ w p is. primary (path_operand is)), tt)
+operand_keeps a_template = ((λ w e is. primary (template_operand is)), tt)
 operand_keeps a_literal = ((λ w v is. primary (literal_operand is)), tt)
 
 pub rule_keeps : (r : Rule) → Keeps (program_of r) (Spells r)

@@ -3,6 +3,7 @@ use Rattle.std.proofs.Common.{◌≡◌, ◌+◌, ℕ, Bool, IsTrue, List, [], �
 use Rattle.vrl_value.specs.Tree.{Tree, string}
 use Rattle.vrl_diag.specs.declared.diagnostic.Span.{Span}
 use Rattle.vrl_path.specs.declared.path.Step.{Step}
+use Rattle.vrl_syntax.specs.Tree.{Expr}
 use Rattle.vrl_syntax.specs.declared.root.Op.{Op}
 use Rattle.vrl_syntax.specs.declared.root.Root.{Root}
 use Rattle.vrl_syntax.specs.declared.root.Target.{Target}
@@ -14,7 +15,7 @@ use Rattle.vrl_word.specs.declared.sign.Sign.TheVariants as sign
 use Rattle.vrl_parse.specs.Descent.{Piece, Said, Says, Takes, takes}
 use Rattle.vrl_parse.specs.FirstWords.{Holds}
 use Rattle.vrl_word.specs.Signs.{token_of}
-use Rattle.vrl_word.specs.Words.{Word, function_of, is_copied, literal_at, operator_of, path_of, regex_of, target_at, words_from}
+use Rattle.vrl_word.specs.Words.{Word, function_of, is_copied, literal_at, operator_of, path_of, regex_of, target_at, template_at, words_from}
 
 -- the word of a token that has so many regex literals before it
 abbrev pub word_of : Spanned → ℕ → Word
@@ -64,6 +65,10 @@ regex_of-path t says = refl
 pub regex_of-target : (t : Token) (s : Span) {x : Target} → target_at t s ≡ Some x → regex_of t ≡ []
 regex_of-target (token.Regex s) span says = cc
 regex_of-target t span says = refl
+
+pub regex_of-template : (t : Token) (s : Span) {e : Expr} → template_at t s ≡ Some e → regex_of t ≡ []
+regex_of-template (token.Regex s) span says = cc
+regex_of-template t span says = refl
 
 -- ---- signs
 

@@ -10,14 +10,14 @@ use Rattle.vrl_token.specs.declared.token.Token.{Token}
 use Rattle.vrl_token.specs.declared.token.Token.TheVariants as token
 use Rattle.vrl_value.specs.Tree.{Tree}
 use Rattle.vrl_parse.specs.Grammar.{Is}
-use Rattle.vrl_word.specs.Words.{Word, over, literal_of, path_of, target_of, function_of, name_span, operator_of, levels}
+use Rattle.vrl_word.specs.Words.{Word, over, literal_of, template_of, path_of, target_of, function_of, name_span, operator_of, levels}
 
 -- ---- single words
 
 -- what a word can be taken as; an operator has its level
 pub data Piece : Type 0 where
   sign_word : Token → Piece
-  target_word name_word key_word function_word path_word literal_word suffix_word : Piece
+  target_word name_word key_word function_word path_word literal_word template_word suffix_word : Piece
   operator_word : ℕ → Piece
 
 -- what it then says
@@ -29,6 +29,7 @@ Said key_word = List ℕ
 Said function_word = List ℕ × Bool
 Said path_word = Root × List Step
 Said literal_word = Tree
+Said template_word = Expr
 Said suffix_word = List Step
 Said (operator_word n) = Op
 
@@ -40,6 +41,7 @@ Says key_word w v = Is (token.Text v) w
 Says function_word w v = function_of w.token ≡ Some v
 Says path_word w v = path_of w.token ≡ Some v
 Says literal_word w v = literal_of w ≡ Some v
+Says template_word w v = template_of w ≡ Some v
 Says suffix_word w v = Is (token.Suffix v) w
 Says (operator_word n) w v = operator_of w.token ≡ Some (n, v)
 
@@ -85,7 +87,7 @@ Sees (tightest n) ws = n ≡ levels
 
 -- which operand begins with a word
 pub data Operand : Type 0 where
-  a_negation a_call an_array a_group an_object a_block an_if a_path a_literal : Operand
+  a_negation a_call an_array a_group an_object a_block an_if a_path a_template a_literal : Operand
 
 abbrev pub operand_of : Token → Operand
 operand_of token.Not = a_negation
@@ -100,6 +102,7 @@ operand_of (token.Name n) = a_path
 operand_of (token.NamePath n path) = a_path
 operand_of (token.EventPath path) = a_path
 operand_of (token.MetadataPath path) = a_path
+operand_of (token.Template first holes) = a_template
 operand_of t = a_literal
 
 abbrev pub operand_at : List Word → Operand
@@ -188,6 +191,7 @@ operand_program a_block = go braces λ b. done (expr b.1 (block b.0))
 operand_program an_if =
     expect (sign_word token.If) λ _ start. go arms λ a. done (expr (over start a.2) (conditional a.0 a.1))
 operand_program a_path = expect path_word λ p span. done (expr span (read p.0 p.1))
+operand_program a_template = expect template_word λ e _. done e
 operand_program a_literal = expect literal_word λ v span. done (expr span (literal v))
 
 abbrev pub program_of : (r : Rule) → Program (Meaning r)

@@ -6,7 +6,7 @@ use Rattle.vrl_parse.specs.declared.parser.Operand.TheVariants as code
 use Rattle.vrl_parse.specs.declared.parser.Parser.{Parser}
 use Rattle.vrl_parse.specs.declared.stop.Stop.{Stop}
 use Rattle.vrl_parse.specs.declared.stop.Stop.TheVariants as stop
-use Rattle.vrl_parse.specs.Descent.{a_block, a_call, a_group, a_literal, a_negation, a_path, an_array, an_if, an_object, Lacks, Look, Operand, Piece, Said, Says, Sees}
+use Rattle.vrl_parse.specs.Descent.{a_block, a_call, a_group, a_literal, a_negation, a_path, a_template, an_array, an_if, an_object, Lacks, Look, Operand, Piece, Said, Says, Sees}
 use Rattle.vrl_token.specs.declared.fault.SyntaxFault.{SyntaxFault}
 use Rattle.vrl_token.specs.declared.fault.SyntaxFault.TheVariants.{Fault, Memory}
 use Rattle.vrl_word.specs.Words.{Word, words_from}
@@ -59,4 +59,5 @@ told_operand code.Object = an_object
 told_operand code.Block = a_block
 told_operand code.Conditional = an_if
 told_operand code.Path = a_path
+told_operand code.Template = a_template
 told_operand code.Literal = a_literal

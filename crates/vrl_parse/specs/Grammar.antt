@@ -11,7 +11,7 @@ use Rattle.vrl_syntax.specs.declared.root.Target.{Target}
 use Rattle.vrl_token.specs.declared.token.Token.{Token}
 use Rattle.vrl_token.specs.declared.token.Token.TheVariants as token
 use Rattle.vrl_value.specs.Tree.{Tree}
-use Rattle.vrl_word.specs.Words.{Word, over, literal_of, path_of, target_of, function_of, name_span, operator_of, levels}
+use Rattle.vrl_word.specs.Words.{Word, over, literal_of, template_of, path_of, target_of, function_of, name_span, operator_of, levels}
 
 -- the word is this sign
 pub record Is (t : Token) (w : Word) : Type 0 where
@@ -66,9 +66,11 @@ mutual
         → IsUnary (w ∷ ws) (expr (over w.span (span_of e)) (negation e))
     primary : {ws : List Word} {e : Expr} → IsPrimary ws e → IsUnary ws e
 
-  -- literal | path | name | call [suffix] | array [suffix] | "(" item ")" [suffix] | object | block | if
+  -- literal | text with variables | path | name | call [suffix] | array [suffix] | "(" item ")" [suffix]
+  -- | object | block | if
   pub data IsPrimary : List Word → Expr → Type 0 where
     a_literal : {w : Word} {v : Tree} → literal_of w ≡ Some v → IsPrimary (w ∷ []) (expr w.span (literal v))
+    a_template : {w : Word} {e : Expr} → template_of w ≡ Some e → IsPrimary (w ∷ []) e
     a_path : {w : Word} {r : Root} {p : List Step} → path_of w.token ≡ Some (r, p)
         → IsPrimary (w ∷ []) (expr w.span (read r p))
     without_suffix : {ws : List Word} {e : Expr} → MayHaveSuffix ws e → IsPrimary ws e

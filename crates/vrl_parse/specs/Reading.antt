@@ -42,7 +42,7 @@ pub data IsScriptFault (tokens : TokenList) (d : Diagnostic) : Type 0 where
 
 -- the codes of what can be wrong with tokens
 abbrev pub parse_codes : List ℕ
-parse_codes = 203 ∷ 1007 ∷ 1012 ∷ []
+parse_codes = 203 ∷ 1012 ∷ []
 
 -- tokens have at most one script
 abbrev pub ScriptsAreDetermined : Type 0

@@ -1,6 +1,6 @@
 ghost use Rattle.std.specs.Prelude.{◌<◌, ◌≤◌, IfErr, IfOk, OnOk, length};
 ghost use Rattle.vrl_syntax.specs.View.{expr_of};
-ghost use Rattle.vrl_parse.specs.Descent.{a_block, a_group, a_literal, a_negation, a_path, an_array, an_object, operand as operand_rule, operand_program, program_of, refused, Runs, suffixed, took};
+ghost use Rattle.vrl_parse.specs.Descent.{a_block, a_group, a_literal, a_negation, a_path, a_template, an_array, an_object, operand as operand_rule, operand_program, program_of, refused, Runs, suffixed, took};
 ghost use Rattle.vrl_parse.specs.FirstWords.{OnRefusal, words_left};
 
 use crate::parser::{Operand, Parser};
@@ -30,6 +30,7 @@ impl<'a> Parser<'a> {
             Operand::Block => self.braced(),
             Operand::Conditional => self.conditional(),
             Operand::Path => self.read(),
+            Operand::Template => self.summed(),
             Operand::Literal => self.constant(),
         }
     }
@@ -129,6 +130,20 @@ impl<'a> Parser<'a> {
     {
         let ((root, path), span) = self.path()?;
         Ok(forms::read(span, root, path))
+    }
+
+    // Takes a text with variables.
+    fn summed(&mut self) -> Result<Expr, Stop>
+        ensures takes { IfOk result
+            (λ x. Runs operand_rule (operand_program a_template) (words_left self.old)
+            (took (expr_of x) (words_left self.new))) }
+        ensures refuses { IfErr result
+            (OnRefusal (Runs operand_rule (operand_program a_template) (words_left self.old)
+            (refused (words_left self.new)))) }
+        ensures shorter { OnOk result (length self.new.rest.now < length self.old.rest.now) }
+    {
+        let (template, _) = self.template()?;
+        Ok(template)
     }
 
     // Takes a literal.

@@ -96,6 +96,7 @@ impl<'a> Parser<'a> {
             Token::NamePath(..) => Operand::Path,
             Token::EventPath(_) => Operand::Path,
             Token::MetadataPath(_) => Operand::Path,
+            Token::Template(..) => Operand::Template,
             _ => Operand::Literal,
         }
     }
@@ -128,6 +129,7 @@ pub(crate) enum Operand {
     Block,
     Conditional,
     Path,
+    Template,
     Literal,
 }
 

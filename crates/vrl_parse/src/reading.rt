@@ -22,9 +22,9 @@ use vrl_value::{Chars, Memory, Names};
 /// # Errors
 ///
 /// `Fault`: 203 where no script is read, at the first token such that none begins with the tokens up to and
-/// with it, or, where there is no such token, at the end of the text; else the first, by place, of the paths
-/// that are written or deleted and have a negative index (1007), or an index above 65,535 or more than 128
-/// steps (1012). `Memory`: want of memory.
+/// with it, or, where there is no such token, at the end of the text; else 1012 for the first, by place, of
+/// the paths that are written or deleted and have an index above 65,535 or below -65,536, or more than 128
+/// steps. `Memory`: want of memory.
 pub fn parse(alloc: Global, tokens: &Tokens) -> Result<Script, SyntaxFault>
     ensures script { IfOk result (λ script. Reads tokens.now.tokens (script_of script)) }
     ensures limits { IfOk result (λ script. KeepsLimits (exprs_of script.items)) }

@@ -1,6 +1,7 @@
 ghost use Rattle.std.specs.Prelude.{◌≡◌, ◌≢◌, ◌+◌, ◌-◌, ◌^◌, ◌<◌, ◌≤◌, Err, IfErr, IfNone, IfOk, IfSome, IsErr, OnOk, OnSome, length};
+ghost use Rattle.vrl_syntax.specs.View.{expr_of};
 ghost use Rattle.vrl_value.specs.View.{tree_of};
-ghost use Rattle.vrl_parse.specs.Descent.{function_word, key_word, literal_word, name_word, operator_word, path_word, sign_word, suffix_word, Takes, target_word};
+ghost use Rattle.vrl_parse.specs.Descent.{function_word, key_word, literal_word, name_word, operator_word, path_word, sign_word, suffix_word, Takes, target_word, template_word};
 ghost use Rattle.vrl_parse.specs.FirstWords.{Holds, Missing, OnRefusal, Without, words_left};
 ghost use Rattle.vrl_word.specs.Signs.{token_of};
 ghost use Rattle.vrl_word.specs.Words.{regex_of};
@@ -9,10 +10,12 @@ use crate::parser::Parser;
 use crate::stop::Stop;
 use vrl_diag::Span;
 use vrl_path::Path;
-use vrl_syntax::{Op, Root, Target};
+use vrl_syntax::{Expr, Op, Root, Target};
 use vrl_token::Token;
 use vrl_value::{Chars, Memory, Value};
-use vrl_word::{Sign, function_of, is_sign, literal_of, operator_of, path_of, target_of};
+use vrl_word::{
+    Sign, function_of, is_sign, literal_of, operator_of, path_of, target_of, template_of,
+};
 
 impl<'a> Parser<'a> {
     // Takes the next token where it is this sign, and tells its place.
@@ -181,6 +184,26 @@ impl<'a> Parser<'a> {
                 self.patterns = count_pattern(&first.token, self.patterns)?;
                 self.rest = rest;
                 Ok((value, first.span))
+            }
+            None => Err(Stop::Refused),
+        }
+    }
+
+    // Takes a text with variables as the expression that it is, and tells its place.
+    pub(crate) fn template(&mut self) -> Result<(Expr, Span), Stop>
+        ensures takes { IfOk result
+            (λ found. Takes template_word (words_left self.old) (expr_of found.0) found.1 (words_left self.new)) }
+        ensures refuses { IfErr result (OnRefusal (Missing template_word (words_left self.old) (words_left self.new))) }
+        ensures memory { result ≡ Err Stop.Memory → Holds template_word (words_left self.old) }
+        ensures shorter { OnOk result (length self.new.rest.now < length self.old.rest.now) }
+    {
+        let Some((first, rest)) = self.rest.split_first() else {
+            return Err(Stop::Refused);
+        };
+        match template_of(self.alloc, first)? {
+            Some(template) => {
+                self.rest = rest;
+                Ok((template, first.span))
             }
             None => Err(Stop::Refused),
         }

@@ -2,23 +2,24 @@
 use Rattle.std.proofs.Common.{◌≡◌, ℕ, zero, suc, ◌≤◌, List, Some, None, ap, refl, arith, Ordering, Less, Equal, Greater, nat_cmp}
 use Rattle.std.specs.Cmp.Lexicographic.{slice_cmp}
 use Rattle.std.specs.Ordering.{match_ordering}
-use Rattle.vrl_value.specs.Look.{Step, item_at}
+use Rattle.vrl_value.specs.Look.{item_at}
 use Rattle.vrl_value.specs.Parts.{count_of, replace, replace_item}
 use Rattle.vrl_value.specs.Tree.{Tree, Items, Members, no_items, item, no_members, member, find}
-use Rattle.vrl_path.specs.Trees.{plain_set_tree, set_in_fields, set_in_items, plain_remove_tree, remove_in_fields, remove_in_items}
+use Rattle.vrl_path.specs.declared.path.Step.{Step}
+use Rattle.vrl_path.specs.Trees.{set_tree, set_in_fields, set_in_items, remove_tree, remove_in_fields, remove_in_items}
 
 -- a value set in the field that was found
-pub set_found_field : (k : List ℕ) (ms : Members) (p : List Step) (n t w : Tree) → Some t ≡ find k ms → w ≡ plain_set_tree t p n → replace k w ms ≡ set_in_fields k ms p n
+pub set_found_field : (k : List ℕ) (ms : Members) (p : List Step) (n t w : Tree) → Some t ≡ find k ms → w ≡ set_tree t p n → replace k w ms ≡ set_in_fields k ms p n
 set_found_field k ms p n t w found set = rw (← found) (ap (λ u. replace k u ms) set)
 
 -- a value set in the item that was found
-pub set_found_item : (i : ℕ) (ts : Items) (p : List Step) (n t w : Tree) → Some t ≡ item_at i ts → w ≡ plain_set_tree t p n → replace_item i w ts ≡ set_in_items i ts p n
+pub set_found_item : (i : ℕ) (ts : Items) (p : List Step) (n t w : Tree) → Some t ≡ item_at i ts → w ≡ set_tree t p n → replace_item i w ts ≡ set_in_items i ts p n
 set_found_item i ts p n t w found set = rw (← found) (ap (λ u. replace_item i u ts) set)
 
-pub removed_in_field : (k : List ℕ) (ms : Members) (p : List Step) (t w : Tree) → Some t ≡ find k ms → w ≡ plain_remove_tree t p → replace k w ms ≡ remove_in_fields k ms p
+pub removed_in_field : (k : List ℕ) (ms : Members) (p : List Step) (t w : Tree) → Some t ≡ find k ms → w ≡ remove_tree t p → replace k w ms ≡ remove_in_fields k ms p
 removed_in_field k ms p t w found removed = rw (← found) (ap (λ u. replace k u ms) removed)
 
-pub removed_in_item : (i : ℕ) (ts : Items) (p : List Step) (t w : Tree) → Some t ≡ item_at i ts → w ≡ plain_remove_tree t p → replace_item i w ts ≡ remove_in_items i ts p
+pub removed_in_item : (i : ℕ) (ts : Items) (p : List Step) (t w : Tree) → Some t ≡ item_at i ts → w ≡ remove_tree t p → replace_item i w ts ≡ remove_in_items i ts p
 removed_in_item i ts p t w found removed = rw (← found) (ap (λ u. replace_item i u ts) removed)
 
 -- a part replaced by itself

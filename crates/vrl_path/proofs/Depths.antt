@@ -1,15 +1,18 @@
 -- How deep a tree is in which another was set.
-use Rattle.std.proofs.Common.{◌≡◌, ℕ, zero, suc, ◌+◌, ◌≤◌, List, [], ◌∷◌, length, max, Option, Some, None, Ordering, Less, Equal, Greater, nat_cmp, refl, ap, arith}
+use Rattle.std.proofs.Common.{◌≡◌, ℕ, zero, suc, ◌+◌, ◌-◌, ◌≤◌, Bool, true, false, if◌then◌else◌, is_some, unsigned_abs, List, [], ◌∷◌, length, max, Option, Some, None, Ordering, Less, Equal, Greater, nat_cmp, refl, ap, arith}
 use Rattle.std.specs.Cmp.Lexicographic.{slice_cmp}
 use Rattle.std.specs.Ordering.{match_ordering}
 use Rattle.vrl_value.specs.Depth.{depth_of, items_depth, members_depth}
 use Rattle.vrl_value.specs.Look.{Step, field, place, Found, there, found_if, item_at, part_at}
-use Rattle.vrl_value.specs.Parts.{put_item, replace}
+use Rattle.vrl_value.specs.Parts.{count_of, put_item, replace}
 use Rattle.vrl_value.specs.Tree.{Tree, array, object, Items, no_items, item, Members, no_members, member, find, put}
-use Rattle.vrl_path.specs.Trees.{plain_set_tree}
-use Rattle.vrl_path.specs.Write.{items_in, members_in}
-use Rattle.vrl_path.proofs.Placed.{tree_or_null, placed_member, member_if}
-use Rattle.vrl_path.proofs.Sets.{part_set, set_in_object, set_in_array}
+use Rattle.vrl_path.specs.FromEnd.{behind_nulls, front_padded, part_behind, step_in}
+use Rattle.vrl_path.specs.Parts.{items_in, members_in, part_or_null, set_part, tree_or_null}
+use Rattle.vrl_path.specs.Read.{place_of}
+use Rattle.vrl_path.specs.Trees.{set_tree}
+use Rattle.vrl_path.specs.declared.path.Step.{Step as CodeStep}
+use Rattle.vrl_path.specs.declared.path.Step.TheVariants.{Field, Place}
+use Rattle.vrl_path.proofs.Placed.{member_if, placed_member, placed-field, placed-place}
 
 -- a part that was put is no deeper than the whole
 below_put_at : (o : Ordering) (k l : List ℕ) (t u : Tree) (ms rest : Members) → depth_of t ≤ members_depth rest → depth_of t ≤ members_depth (match_ordering o (member k t (member l u ms)) (member l t ms) (member l u rest))
@@ -109,40 +112,72 @@ items_below : (v : Tree) → suc (items_depth (items_in (there v))) ≤ max (dep
 items_below (array ts) = omega arith
 items_below v = omega arith
 
--- at least as deep as the path is long and the new part deep
-pub set_deep : (v : Tree) (p : List Step) (n : Tree) → length p + depth_of n ≤ depth_of (plain_set_tree v p n)
-set_deep v [] n = omega arith
-set_deep v (field k ∷ p) n =
-    let t = part_set v (field k) p n in
-    let below = set_deep (tree_or_null (part_at v (field k))) p n in
+-- a part is less deep than the tree in which it is set
+pub part_deep : (s : Step) (t v : Tree) → suc (depth_of t) ≤ depth_of (set_part s t v)
+part_deep (field k) t v =
     let part = below_placed k t (members_in (there v)) in
-    let e = ap depth_of (set_in_object v k p n) in
+    let e = ap depth_of (placed-field v k t) in
     omega arith
-set_deep v (place i ∷ p) n =
-    let t = part_set v (place i) p n in
-    let below = set_deep (tree_or_null (part_at v (place i))) p n in
+part_deep (place i) t v =
     let part = below_put_item i t (items_in (there v)) in
-    let e = ap depth_of (set_in_array v i p n) in
+    let e = ap depth_of (placed-place v i t) in
+    omega arith
+
+-- and the tree no deeper than that or what it was
+part_shallow : (s : Step) (t v : Tree) → depth_of (set_part s t v) ≤ max (max (depth_of v) 1) (suc (depth_of t))
+part_shallow (field k) t v =
+    let whole = member_within (find k (members_in (there v))) k t (members_in (there v)) in
+    let old = members_below v in
+    let e = ap depth_of (placed-field v k t) in
+    omega arith
+part_shallow (place i) t v =
+    let whole = put_item_within i t (items_in (there v)) in
+    let old = items_below v in
+    let e = ap depth_of (placed-place v i t) in
+    omega arith
+
+part_below : (v : Tree) (s : Step) → suc (depth_of (part_or_null v s)) ≤ max (depth_of v) 1
+part_below v (field k) =
+    let part = field_below v k in
+    let old = members_below v in
+    omega arith
+part_below v (place i) =
+    let part = place_below v i in
+    let old = items_below v in
+    omega arith
+
+-- nulls in front make items no deeper
+pub behind_nulls_depth : (k : ℕ) (ts : Items) → items_depth (behind_nulls k ts) ≡ items_depth ts
+behind_nulls_depth zero ts = refl
+behind_nulls_depth (suc k) ts = let h = behind_nulls_depth k ts in omega arith
+
+padded_shallow_if : (b : Bool) (k : ℕ) (v : Tree) → depth_of (if b then v else array (behind_nulls k (items_in (there v)))) ≤ max (depth_of v) 1
+padded_shallow_if true k v = omega arith
+padded_shallow_if false k v =
+    let same = behind_nulls_depth k (items_in (there v)) in
+    let old = items_below v in
+    omega arith
+
+padded_shallow : (v : Tree) (s : CodeStep) → depth_of (front_padded v s) ≤ max (depth_of v) 1
+padded_shallow v (Field k) = omega arith
+padded_shallow v (Place i) =
+    let count = count_of (items_in (there v)) in
+    padded_shallow_if (is_some (place_of count i)) (unsigned_abs i - count) v
+
+-- at least as deep as the path is long and the new part deep
+pub set_deep : (v : Tree) (p : List CodeStep) (n : Tree) → length p + depth_of n ≤ depth_of (set_tree v p n)
+set_deep v [] n = omega arith
+set_deep v (s ∷ p) n =
+    let below = set_deep (part_behind v s) p n in
+    let whole = part_deep (step_in v s) (set_tree (part_behind v s) p n) (front_padded v s) in
     omega arith
 
 -- and no deeper than that or what it was
-pub set_shallow : (v : Tree) (p : List Step) (n : Tree) → depth_of (plain_set_tree v p n) ≤ max (depth_of v) (length p + depth_of n)
+pub set_shallow : (v : Tree) (p : List CodeStep) (n : Tree) → depth_of (set_tree v p n) ≤ max (depth_of v) (length p + depth_of n)
 set_shallow v [] n = omega arith
-set_shallow v (field k ∷ p) n =
-    let ms = members_in (there v) in
-    let t = part_set v (field k) p n in
-    let below = set_shallow (tree_or_null (part_at v (field k))) p n in
-    let part = field_below v k in
-    let whole = member_within (find k ms) k t ms in
-    let old = members_below v in
-    let e = ap depth_of (set_in_object v k p n) in
-    omega arith
-set_shallow v (place i ∷ p) n =
-    let ts = items_in (there v) in
-    let t = part_set v (place i) p n in
-    let below = set_shallow (tree_or_null (part_at v (place i))) p n in
-    let part = place_below v i in
-    let whole = put_item_within i t ts in
-    let old = items_below v in
-    let e = ap depth_of (set_in_array v i p n) in
+set_shallow v (s ∷ p) n =
+    let below = set_shallow (part_behind v s) p n in
+    let part = part_below (front_padded v s) (step_in v s) in
+    let whole = part_shallow (step_in v s) (set_tree (part_behind v s) p n) (front_padded v s) in
+    let old = padded_shallow v s in
     omega arith

@@ -1,5 +1,5 @@
 -- Whether a tree is within a limit of depth with another set in it: by what stands beside the path.
-use Rattle.std.proofs.Common.{◌≡◌, ◌≢◌, ℕ, ℤ, pos, negsuc, zero, suc, ◌+◌, ◌<◌, ◌≤◌, ◌↔◌, List, [], ◌∷◌, ◌++◌, length, max, get_or, Bool, true, false, Option, Some, None, String, Global, Ordering, Less, Equal, Greater, nat_cmp, string_cmp, string_bytes, bytes_eq, is_eq, IsTrue, refl, sym, ap, ◌∙◌, subst, arith, ⊎_elim}
+use Rattle.std.proofs.Common.{◌≡◌, ◌≢◌, ℕ, ℤ, zero, suc, ◌+◌, ◌-◌, ◌<◌, ◌≤◌, ◌↔◌, List, [], ◌∷◌, ◌++◌, length, max, get_or, Bool, true, false, Option, Some, None, String, Global, Ordering, Less, Equal, Greater, nat_cmp, string_cmp, string_bytes, bytes_eq, is_eq, IsTrue, unsigned_abs, refl, sym, ap, ◌∙◌, subst, arith, ⊎_elim}
 use Rattle.std.proofs.lemmas.Bool.{true≢false, cases_lt}
 use Rattle.std.proofs.lemmas.Map.Text.{is_eq-slice_cmp}
 use Rattle.std.proofs.lemmas.Slice.Eq.{bytes_eq-Decides}
@@ -11,18 +11,18 @@ use Rattle.std.specs.Map.{keys_of}
 use Rattle.std.specs.Ordering.{match_ordering}
 use Rattle.vrl_value.specs.Depth.{depth_of, items_depth, members_depth}
 use Rattle.vrl_value.specs.Laws.{MembersAreMaps}
-use Rattle.vrl_value.specs.Look.{Step, field, place, found_if, item_at}
-use Rattle.vrl_value.specs.Parts.{put_item, replace, replace_item, without}
-use Rattle.vrl_value.specs.Tree.{Tree, null, array, object, Items, no_items, Members, no_members, member, find, put, IsBefore}
+use Rattle.vrl_value.specs.Look.{item_at}
+use Rattle.vrl_value.specs.Parts.{count_of, put_item, replace, replace_item, without}
+use Rattle.vrl_value.specs.Tree.{Tree, null, array, object, Items, no_items, item, Members, no_members, member, find, put, IsBefore}
 use Rattle.vrl_value.specs.View.{items_view, members_view, tree_of}
 use Rattle.vrl_value.specs.declared.value.Value.{Value}
-use Rattle.vrl_path.specs.Steps.{plain, plain_step, IsWritableStep}
+use Rattle.vrl_path.specs.Read.{place_of}
 use Rattle.vrl_path.specs.declared.path.Step.{Step as CodeStep}
 use Rattle.vrl_path.specs.declared.path.Step.TheVariants.{Field, Place}
-use Rattle.vrl_path.specs.Trees.{chain, items_if_array, members_if_object, set_in_fields, set_in_items, plain_set_tree, if_there, members_if, items_if}
-use Rattle.vrl_path.specs.Parts.{with_part, replace_part}
-use Rattle.vrl_path.proofs.Depths.{below_placed, put_item_within, put_within, set_shallow}
-use Rattle.vrl_path.proofs.Placed.{chain-null, member_if, replace_item-found}
+use Rattle.vrl_path.specs.Trees.{items_if, items_if_array, members_if, members_if_object, set_in_fields, set_in_items, set_tree}
+use Rattle.vrl_path.proofs.Depths.{behind_nulls_depth, below_placed, put_within, set_shallow}
+use Rattle.vrl_path.proofs.Placed.{member_if, replace_item-found}
+use Rattle.vrl_path.proofs.Places.{set_at_place, set_before_first, set_no_array}
 
 -- the keys of the members ascend
 abbrev pub KeysAscend : Members → Type 0
@@ -169,49 +169,25 @@ item_over (suc i) t (v ∷ vs) zero d within other = omega arith
 item_over (suc i) t (v ∷ vs) (suc k) d within other = let h = item_over i t vs k d (omega arith) (λ e. other (ap suc e)) in omega arith
 
 -- the new part that a set leaves in a field
-pub set_in_fields-part : (k : List ℕ) (ms : Members) (p : List Step) (n u : Tree) → Some u ≡ find k ms → set_in_fields k ms p n ≡ set_in_fields k ms [] (plain_set_tree u p n)
+pub set_in_fields-part : (k : List ℕ) (ms : Members) (p : List CodeStep) (n u : Tree) → Some u ≡ find k ms → set_in_fields k ms p n ≡ set_in_fields k ms [] (set_tree u p n)
 set_in_fields-part k ms p n u found = rw (← found) refl
 
-pub set_in_fields-new : (k : List ℕ) (ms : Members) (p : List Step) (n : Tree) → None ≡ find k ms → set_in_fields k ms p n ≡ set_in_fields k ms [] (chain p n)
+pub set_in_fields-new : (k : List ℕ) (ms : Members) (p : List CodeStep) (n : Tree) → None ≡ find k ms → set_in_fields k ms p n ≡ set_in_fields k ms [] (set_tree null p n)
 set_in_fields-new k ms p n none = rw (← none) refl
 
-items_part_at : (o : Option Tree) (i : ℕ) (ts : Items) (p : List Step) (n u : Tree) → item_at i ts ≡ o → Some u ≡ o → items_if o (λ u. replace_item i (plain_set_tree u p n) ts) (put_item i (chain p n) ts) ≡ put_item i (plain_set_tree u p n) ts
+items_part_at : (o : Option Tree) (i : ℕ) (ts : Items) (p : List CodeStep) (n u : Tree) → item_at i ts ≡ o → Some u ≡ o → items_if o (λ u. replace_item i (set_tree u p n) ts) (put_item i (set_tree null p n) ts) ≡ put_item i (set_tree u p n) ts
 items_part_at None i ts p n u is found = absurd cc
-items_part_at (Some w) i ts p n u is found = let e : w ≡ u = cc in ap (λ x. replace_item i (plain_set_tree x p n) ts) e ∙ replace_item-found i (plain_set_tree u p n) w ts is
+items_part_at (Some w) i ts p n u is found = let e : w ≡ u = cc in ap (λ x. replace_item i (set_tree x p n) ts) e ∙ replace_item-found i (set_tree u p n) w ts is
 
-pub set_in_items-part : (i : ℕ) (ts : Items) (p : List Step) (n u : Tree) → Some u ≡ item_at i ts → set_in_items i ts p n ≡ put_item i (plain_set_tree u p n) ts
+pub set_in_items-part : (i : ℕ) (ts : Items) (p : List CodeStep) (n u : Tree) → Some u ≡ item_at i ts → set_in_items i ts p n ≡ put_item i (set_tree u p n) ts
 set_in_items-part i ts p n u found = items_part_at (item_at i ts) i ts p n u refl found
 
-pub set_in_items-new : (i : ℕ) (ts : Items) (p : List Step) (n : Tree) → None ≡ item_at i ts → set_in_items i ts p n ≡ put_item i (chain p n) ts
+pub set_in_items-new : (i : ℕ) (ts : Items) (p : List CodeStep) (n : Tree) → None ≡ item_at i ts → set_in_items i ts p n ≡ put_item i (set_tree null p n) ts
 set_in_items-new i ts p n none = rw (← none) refl
 
--- a new chain is as deep as its path is long and its end deep
-pub chain_shallow : (p : List Step) (n : Tree) → depth_of (chain p n) ≤ length p + depth_of n
-chain_shallow p n =
-    let h = set_shallow null p n in
-    let e = ap depth_of (chain-null p n) in
-    omega arith
-
-object_at : (o : Option Tree) (k : List ℕ) (ms : Members) (p : List Step) (n : Tree)
-    → if_there (found_if o) (λ u. replace_part (field k) (plain_set_tree u p n) (object ms)) (with_part (field k) (chain p n) (object ms)) ≡ object (members_if o (λ u. replace k (plain_set_tree u p n) ms) (put k (chain p n) ms))
-object_at None k ms p n = refl
-object_at (Some u) k ms p n = refl
-
-array_at : (o : Option Tree) (i : ℕ) (ts : Items) (p : List Step) (n : Tree)
-    → if_there (found_if o) (λ u. replace_part (place i) (plain_set_tree u p n) (array ts)) (with_part (place i) (chain p n) (array ts)) ≡ array (items_if o (λ u. replace_item i (plain_set_tree u p n) ts) (put_item i (chain p n) ts))
-array_at None i ts p n = refl
-array_at (Some u) i ts p n = refl
-
-pub set_no_object : (v : Tree) (k : List ℕ) (p : List Step) (n : Tree) → None ≡ members_if_object v → depth_of (plain_set_tree v (field k ∷ p) n) ≤ suc (length p + depth_of n)
-set_no_object (object ms) k p n none = absurd cc
-set_no_object v k p n none = let h = chain_shallow p n in omega arith
-
-pub set_no_array : (v : Tree) (i : ℕ) (p : List Step) (n : Tree) → None ≡ items_if_array v → depth_of (plain_set_tree v (place i ∷ p) n) ≤ suc (length p + depth_of n)
-set_no_array (array ts) i p n none = absurd cc
-set_no_array v i p n none =
-    let h = chain_shallow p n in
-    let e = put_item_within i (chain p n) no_items in
-    omega arith
+-- what is new is as deep as its path is long and its end deep
+pub new_shallow : (p : List CodeStep) (n : Tree) → depth_of (set_tree null p n) ≤ length p + depth_of n
+new_shallow p n = let h = set_shallow null p n in omega arith
 
 -- a fact that a test decides, by the test
 pub over : (b : Bool) (d limit : ℕ) → (IsTrue b ↔ (d ≤ limit)) → b ≡ false → limit < d
@@ -221,29 +197,47 @@ over b d limit decides fails = ⊎_elim (λ h. h) (λ h. absurd (true≢false (s
 pub over_whole : (b : Bool) (d whole limit : ℕ) → (IsTrue b ↔ (d ≤ limit)) → b ≡ false → d ≤ whole → IsTrue b ↔ (whole ≤ limit)
 over_whole b d whole limit decides fails below = let h = over b d limit decides fails in (λ yes. absurd (true≢false (sym yes ∙ fails)), λ fits. absurd (omega arith))
 
-pub length_plain : (steps : List CodeStep) → length (plain steps) ≡ length steps
-length_plain [] = refl
-length_plain (s ∷ steps) = ap suc (length_plain steps)
+set_no_object : (v : Tree) (k : List ℕ) (p : List CodeStep) (n : Tree) → None ≡ members_if_object v → set_tree v (Field k ∷ p) n ≡ set_tree null (Field k ∷ p) n
+set_no_object (object ms) k p n none = absurd cc
+set_no_object v k p n none = refl
 
--- a set at a path of the code, in what isn't the container that the first step fits: the limit has room for the path and the new part
+-- a set in what isn't the container that the first step fits: the limit has room for the path and the new part
 pub no_object_fits : (v : Tree) (steps : List CodeStep) (s : CodeStep) (name : List ℕ) (n : Tree) (limit : ℕ) → s ≡ get_or steps 0 s → s ≡ Field name → 1 ≤ length steps → None ≡ members_if_object v
-    → length steps + depth_of n ≤ limit → depth_of (plain_set_tree v (plain steps) n) ≤ limit
+    → length steps + depth_of n ≤ limit → depth_of (set_tree v steps n) ≤ limit
 no_object_fits v [] s name n limit is field_is some none room = absurd (omega arith)
 no_object_fits v (q ∷ rest) s name n limit is field_is some none room =
-    let h = set_no_object v name (plain rest) n none in
-    let e = ap (λ x. depth_of (plain_set_tree v (plain_step x ∷ plain rest) n)) (sym is ∙ field_is) in
-    let m = length_plain rest in
+    let h = new_shallow (Field name ∷ rest) n in
+    let e = ap depth_of (ap (λ x. set_tree v (x ∷ rest) n) (sym is ∙ field_is) ∙ set_no_object v name rest n none) in
     omega arith
 
-pub no_array_fits : (v : Tree) (steps : List CodeStep) (s : CodeStep) (i : ℤ) (n : Tree) (limit : ℕ) → s ≡ get_or steps 0 s → s ≡ Place i → IsWritableStep s → 1 ≤ length steps → None ≡ items_if_array v
-    → length steps + depth_of n ≤ limit → depth_of (plain_set_tree v (plain steps) n) ≤ limit
-no_array_fits v [] s i n limit is place_is plain_s some none room = absurd (omega arith)
-no_array_fits v (q ∷ rest) s (pos i) n limit is place_is plain_s some none room =
-    let h = set_no_array v i (plain rest) n none in
-    let e = ap (λ x. depth_of (plain_set_tree v (plain_step x ∷ plain rest) n)) (sym is ∙ place_is) in
-    let m = length_plain rest in
+pub no_array_fits : (v : Tree) (steps : List CodeStep) (s : CodeStep) (i : ℤ) (n : Tree) (limit : ℕ) → s ≡ get_or steps 0 s → s ≡ Place i → 1 ≤ length steps → None ≡ items_if_array v
+    → length steps + depth_of n ≤ limit → depth_of (set_tree v steps n) ≤ limit
+no_array_fits v [] s i n limit is place_is some none room = absurd (omega arith)
+no_array_fits v (q ∷ rest) s i n limit is place_is some none room =
+    let h = new_shallow (Place i ∷ rest) n in
+    let e = ap depth_of (ap (λ x. set_tree v (x ∷ rest) n) (sym is ∙ place_is) ∙ set_no_array v i rest n none) in
     omega arith
-no_array_fits v (q ∷ rest) s (negsuc i) n limit is place_is plain_s some none room = absurd (subst IsWritableStep place_is plain_s)
+
+-- a null behind the last item makes items no deeper
+null_behind : (ts : Items) → items_depth (put_item (count_of ts) null ts) ≡ items_depth ts
+null_behind no_items = omega arith
+null_behind (item u ts) = let h = null_behind ts in omega arith
+
+-- an array fits with a new part where its items do
+pub place_fits : (test : Bool) (ts : Items) (z : ℤ) (i : ℕ) (p : List CodeStep) (n : Tree) (limit : ℕ) → place_of (count_of ts) z ≡ Some i → 0 < limit
+    → (IsTrue test ↔ (items_depth (set_in_items i ts p n) ≤ limit - 1)) → (IsTrue test ↔ (depth_of (set_tree (array ts) (Place z ∷ p) n) ≤ limit))
+place_fits test ts z i p n limit is some decides =
+    let e = ap depth_of (set_at_place ts z i p n is) in
+    (λ yes. let h = decides.0 yes in omega arith, λ fits. decides.1 (omega arith))
+
+pub front_fits : (test : Bool) (ts : Items) (z : ℤ) (p : List CodeStep) (n : Tree) (limit : ℕ) → place_of (count_of ts) z ≡ None → length p + depth_of n < limit
+    → (IsTrue test ↔ (items_depth (put_item (count_of ts) null ts) ≤ limit - 1)) → (IsTrue test ↔ (depth_of (set_tree (array ts) (Place z ∷ p) n) ≤ limit))
+front_fits test ts z p n limit none room decides =
+    let e = ap depth_of (set_before_first ts z p n none) in
+    let part = new_shallow p n in
+    let nulls = behind_nulls_depth (unsigned_abs z - count_of ts - 1) ts in
+    let same = null_behind ts in
+    (λ yes. let h = decides.0 yes in omega arith, λ fits. decides.1 (omega arith))
 
 -- an entry at the name always fits
 pub entry_at_name : (key name : List ℕ) (u : Tree) (limit : ℕ) → bytes_eq key name ≡ true → members_depth (without name (member key u no_members)) ≤ limit

@@ -1,11 +1,13 @@
 pub mod Changes
 pub mod Depths
 pub mod Fits
+pub mod FromEnd
+pub mod GoingOn
 pub mod OneResult
 pub mod Options
 pub mod Order
 pub mod Placed
-pub mod PlainReads
+pub mod Places
 pub mod Removed
 pub mod Results
 pub mod Sets

@@ -5,9 +5,9 @@ use Rattle.std.proofs.lemmas.Slice.Eq.{bytes_eq-Decides}
 use Rattle.vrl_value.specs.Laws.{TreesAreTold}
 use Rattle.vrl_value.specs.Look.{Step, field, place, Found, raw_at, outline}
 use Rattle.vrl_value.specs.Tree.{Tree}
+use Rattle.vrl_path.specs.FromEnd.{padded, part_behind, step_in, steps_in}
 use Rattle.vrl_path.specs.Laws.{SetsAreOne, RemovalsAreOne}
 use Rattle.vrl_path.specs.Remove.{IsPlainRemoval}
-use Rattle.vrl_path.specs.Steps.{plain, plain_step}
 use Rattle.vrl_path.specs.Write.{Holds, IsPlainSet}
 
 -- how a path q stands to a path p
@@ -76,7 +76,7 @@ module _ (v : Tree) (p : List Step) (n w u : Tree) (first : IsPlainSet v p n w) 
   set_told q (apart a s t r b e f other) = ap outline (ap (raw_at w) f ∙ set_apart a s t r b e other ∙ sym (ap (raw_at u) f))
 
 pub one_set : TreesAreTold → SetsAreOne
-one_set told v p n w u first second ordered sorted = told w u ordered sorted (λ q. set_told v (plain p) n w u first second q (stand (plain p) q))
+one_set told v p n w u first second ordered sorted = told w u ordered sorted (λ q. set_told (padded v p) (steps_in v p) n w u first second q (stand (steps_in v p) q))
 
 -- the last step of a path
 last_of : (s : Step) (p : List Step) → (a : List Step) × (l : Step) × (s ∷ p ≡ a ++ l ∷ [])
@@ -112,5 +112,5 @@ module _ (v : Tree) (p : List Step) (w u : Tree) (first : IsPlainRemoval v p w) 
 pub one_removal : TreesAreTold → RemovalsAreOne
 one_removal told v [] w u some first second ordered sorted = absurd (some refl)
 one_removal told v (s ∷ p) w u some first second ordered sorted =
-    let end = last_of (plain_step s) (plain p) in
-    told w u ordered sorted (λ q. left_told v (plain (s ∷ p)) w u first second end.0 end.1 end.2 q (stand (plain (s ∷ p)) q))
+    let end = last_of (step_in v s) (steps_in (part_behind v s) p) in
+    told w u ordered sorted (λ q. left_told v (steps_in v (s ∷ p)) w u first second end.0 end.1 end.2 q (stand (steps_in v (s ∷ p)) q))

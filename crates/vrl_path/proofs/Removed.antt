@@ -4,12 +4,17 @@ use Rattle.vrl_value.specs.Laws.{ItemsAreLists, MembersAreMaps}
 use Rattle.vrl_value.specs.Look.{Step, field, place, Found, there, missing, no_place, found_if, item_at, part_at, raw_at}
 use Rattle.vrl_value.specs.Tree.{Tree, array, object, Items, Members, find}
 use Rattle.vrl_path.specs.Parts.{replace_part, without_part}
-use Rattle.vrl_path.specs.Read.{tree_found}
-use Rattle.vrl_path.specs.Remove.{plain_removable_at, IsPlainRemoval}
-use Rattle.vrl_path.specs.Trees.{if_there, plain_remove_tree}
+use Rattle.vrl_path.specs.Remove.{IsPlainRemoval}
+use Rattle.vrl_path.specs.Trees.{if_there}
 use Rattle.vrl_path.specs.Write.{Holds}
 use Rattle.vrl_path.proofs.Changes.{same_item, same_member}
 use Rattle.vrl_path.proofs.Sets.{behind}
+
+-- the tree without what stands at a path without negative places
+abbrev pub plain_remove_tree : Tree → List Step → Tree
+plain_remove_tree t [] = t
+plain_remove_tree t (s ∷ []) = without_part s t
+plain_remove_tree t (s ∷ r ∷ p) = if_there (part_at t s) (λ u. replace_part s (plain_remove_tree u (r ∷ p)) t) t
 
 if_found : (o : Option Tree) (u : Tree) → found_if o ≡ there u → o ≡ Some u
 if_found None u is = absurd cc
@@ -83,7 +88,7 @@ last_at (there u) x found = found
 last_at missing x found = absurd cc
 last_at no_place x found = absurd cc
 
-last : (v : Tree) (s : Step) (x : Tree) → raw_at v (s ∷ []) ≡ there x → part_at v s ≡ there x
+pub last : (v : Tree) (s : Step) (x : Tree) → raw_at v (s ∷ []) ≡ there x → part_at v s ≡ there x
 last v s x found = last_at (part_at v s) x found
 
 module _ (maps : MembersAreMaps) (lists : ItemsAreLists) (v : Tree) (c : Step) (p : List Step) (x : Tree) (o : Opened v c p x) where
@@ -145,19 +150,9 @@ removed_field_at_place maps lists (c ∷ a) v i l b x found =
     let o = opened v c a (place i) [] x found in
     after maps lists v c (a ++ place i ∷ []) x o (a ++ field l ∷ b) ∙ removed_field_at_place maps lists a o.part i l b x o.found ∙ before maps lists v c (a ++ place i ∷ []) x o (a ++ field l ∷ b)
 
-found_there : (f : Found) (x : Tree) → tree_found f ≡ Some x → f ≡ there x
-found_there (there u) x is = cc
-found_there missing x is = absurd cc
-found_there no_place x is = absurd cc
-
-stands : (v : Tree) (p : List Step) (x : Tree) → plain_removable_at v p ≡ Some x → raw_at v p ≡ there x
-stands v [] x is = absurd cc
-stands v (s ∷ p) x is = found_there (raw_at v (s ∷ p)) x is
-
 -- the walk removes
-pub is_removed : (maps : MembersAreMaps) (lists : ItemsAreLists) (v : Tree) (p : List Step) (x : Tree) → plain_removable_at v p ≡ Some x → IsPlainRemoval v p (plain_remove_tree v p)
-is_removed maps lists v p x is =
-    let found = stands v p x is in
+pub is_removed : (maps : MembersAreMaps) (lists : ItemsAreLists) (v : Tree) (p : List Step) (x : Tree) → raw_at v p ≡ there x → IsPlainRemoval v p (plain_remove_tree v p)
+is_removed maps lists v p x found =
     let at_path = λ (q : List Step) (e : p ≡ q). ap (raw_at v) (sym e) ∙ found in
     let moved = λ (q b : List Step) (e : p ≡ q). ap (λ q. raw_at (plain_remove_tree v q) b) e in
     record {
@@ -170,28 +165,6 @@ is_removed maps lists v p x is =
       field_at_place = λ a i l b e. moved (a ++ place i ∷ []) (a ++ field l ∷ b) e ∙ removed_field_at_place maps lists a v i l b x (at_path (a ++ place i ∷ []) e);
     }
 
-replaced_same : (s : Step) (v u : Tree) → part_at v s ≡ there u → replace_part s u v ≡ v
+pub replaced_same : (s : Step) (v u : Tree) → part_at v s ≡ there u → replace_part s u v ≡ v
 replaced_same (field k) v u is = in_object k u (λ x. replace_part (field k) u x ≡ x) (λ ms found. ap object (same_member k ms u u (sym found) refl)) v is
 replaced_same (place i) v u is = in_array i u (λ x. replace_part (place i) u x ≡ x) (λ ts found. ap array (same_item i ts u u (sym found) refl)) v is
-
-none_of : (o : Option Tree) → tree_found (behind [] (found_if o)) ≡ None → o ≡ None
-none_of None none = refl
-none_of (Some t) none = absurd cc
-
-nothing_last : (maps : MembersAreMaps) (lists : ItemsAreLists) (v : Tree) (s : Step) → tree_found (raw_at v (s ∷ [])) ≡ None → without_part s v ≡ v
-nothing_last maps lists (object ms) (field k) none = ap object (maps.without_none k ms (none_of (find k ms) none))
-nothing_last maps lists (array ts) (place i) none = ap array (lists.item_without_none i ts (none_of (item_at i ts) none))
-nothing_last maps lists v (field k) none = refl
-nothing_last maps lists v (place i) none = refl
-
-nothing_at : (f : Found) (v : Tree) (s r : Step) (p : List Step) → part_at v s ≡ f → tree_found (behind (r ∷ p) f) ≡ None → ((u : Tree) → plain_removable_at u (r ∷ p) ≡ None → plain_remove_tree u (r ∷ p) ≡ u)
-    → if_there f (λ u. replace_part s (plain_remove_tree u (r ∷ p)) v) v ≡ v
-nothing_at (there u) v s r p is none later = ap (λ t. replace_part s t v) (later u none) ∙ replaced_same s v u is
-nothing_at missing v s r p is none later = refl
-nothing_at no_place v s r p is none later = refl
-
--- where there is nothing to remove, the walk changes nothing
-pub nothing_removed : (maps : MembersAreMaps) (lists : ItemsAreLists) (v : Tree) (p : List Step) → plain_removable_at v p ≡ None → plain_remove_tree v p ≡ v
-nothing_removed maps lists v [] none = refl
-nothing_removed maps lists v (s ∷ []) none = nothing_last maps lists v s none
-nothing_removed maps lists v (s ∷ r ∷ p) none = nothing_at (part_at v s) v s r p refl none (λ u e. nothing_removed maps lists u (r ∷ p) e)

@@ -4,9 +4,9 @@ use Rattle.vrl_value.specs.Laws.{ItemsAreLists, MembersAreMaps}
 use Rattle.vrl_value.specs.Look.{Step, field, place, Found, there, missing, no_place, found_if, found_behind, item_at, part_at, raw_at}
 use Rattle.vrl_value.specs.Parts.{put_item}
 use Rattle.vrl_value.specs.Tree.{Tree, null, array, object}
-use Rattle.vrl_path.specs.Trees.{plain_set_tree}
-use Rattle.vrl_path.specs.Write.{items_in, members_in, or_null, Holds, IsPlainSet}
-use Rattle.vrl_path.proofs.Placed.{tree_or_null, placed_member, set_step, placed-field, placed-place, find-placed, find-placed_other}
+use Rattle.vrl_path.specs.Parts.{items_in, members_in, part_or_null, tree_or_null}
+use Rattle.vrl_path.specs.Write.{or_null, Holds, IsPlainSet}
+use Rattle.vrl_path.proofs.Placed.{placed_member, plain_set_tree, placed-field, placed-place, find-placed_other, part_at-set_part}
 
 -- what the steps behind find in what was found
 abbrev pub behind : List Step → Found → Found
@@ -14,21 +14,17 @@ behind b f = found_behind f b (λ u. raw_at u b)
 
 -- the part that a set leaves at its first step
 abbrev pub part_set : Tree → Step → List Step → Tree → Tree
-part_set v s p n = plain_set_tree (tree_or_null (part_at v s)) p n
+part_set v s p n = plain_set_tree (part_or_null v s) p n
 
 pub set_in_object : (v : Tree) (k : List ℕ) (p : List Step) (n : Tree) → plain_set_tree v (field k ∷ p) n ≡ object (placed_member k (part_set v (field k) p n) (members_in (there v)))
-set_in_object v k p n = set_step v (field k) p n ∙ placed-field v k (part_set v (field k) p n)
+set_in_object v k p n = placed-field v k (part_set v (field k) p n)
 
 pub set_in_array : (v : Tree) (i : ℕ) (p : List Step) (n : Tree) → plain_set_tree v (place i ∷ p) n ≡ array (put_item i (part_set v (place i) p n) (items_in (there v)))
-set_in_array v i p n = set_step v (place i) p n ∙ placed-place v i (part_set v (place i) p n)
-
-pub part_at-set : (maps : MembersAreMaps) (lists : ItemsAreLists) (v : Tree) (s : Step) (p : List Step) (n : Tree) → part_at (plain_set_tree v (s ∷ p) n) s ≡ there (part_set v s p n)
-part_at-set maps lists v (field k) p n = ap (λ t. part_at t (field k)) (set_in_object v k p n) ∙ ap found_if (find-placed maps k (part_set v (field k) p n) (members_in (there v)))
-part_at-set maps lists v (place i) p n = ap (λ t. part_at t (place i)) (set_in_array v i p n) ∙ ap found_if (lists.item_put i (part_set v (place i) p n) (items_in (there v)))
+set_in_array v i p n = placed-place v i (part_set v (place i) p n)
 
 -- behind the first step of a set look-up goes on in its part
 onward : (maps : MembersAreMaps) (lists : ItemsAreLists) (v : Tree) (s : Step) (p : List Step) (n : Tree) (q : List Step) → raw_at (plain_set_tree v (s ∷ p) n) (s ∷ q) ≡ raw_at (part_set v s p n) q
-onward maps lists v s p n q = ap (behind q) (part_at-set maps lists v s p n)
+onward maps lists v s p n q = ap (behind q) (part_at-set_part maps lists s (part_set v s p n) v)
 
 set_within : (maps : MembersAreMaps) (lists : ItemsAreLists) (v : Tree) (p : List Step) (n : Tree) (r : List Step) → raw_at (plain_set_tree v p n) (p ++ r) ≡ raw_at n r
 set_within maps lists v [] n r = refl
@@ -84,7 +80,7 @@ found_or_null None = refl
 found_or_null (Some t) = refl
 
 -- a place of an array, or null
-place_or_null : (v : Tree) (j : ℕ) → there (unwrap_or (item_at j (items_in (there v))) null) ≡ or_null (raw_at v (place j ∷ []))
+pub place_or_null : (v : Tree) (j : ℕ) → there (unwrap_or (item_at j (items_in (there v))) null) ≡ or_null (raw_at v (place j ∷ []))
 place_or_null (array ts) j = found_or_null (item_at j ts)
 place_or_null v j = refl
 

@@ -1,17 +1,22 @@
 -- Laws of reading, setting and removing at paths.
-use Rattle.std.specs.Prelude.{◌≡◌, ◌≢◌, List, [], IfNone, OnSome}
-use Rattle.vrl_value.specs.Look.{raw_at}
+use Rattle.std.specs.Prelude.{◌≡◌, ◌≢◌, List, [], ◌∷◌, IfNone, IfSome, OnSome}
+use Rattle.vrl_value.specs.Look.{there, raw_at}
 use Rattle.vrl_value.specs.Tree.{Tree, IsOrdered}
-use Rattle.vrl_path.specs.Read.{signed_raw_at}
+use Rattle.vrl_path.specs.FromEnd.{front_padded, part_behind, step_in, steps_in}
+use Rattle.vrl_path.specs.Read.{read_at}
 use Rattle.vrl_path.specs.Remove.{removable_at, IsRemoved}
-use Rattle.vrl_path.specs.Steps.{plain, IsPlain}
 use Rattle.vrl_path.specs.Trees.{remove_tree, set_tree}
-use Rattle.vrl_path.specs.Write.{IsAsDeep, IsSet}
+use Rattle.vrl_path.specs.Write.{IsAsDeep, IsPlainSet, IsSet}
 use Rattle.vrl_path.specs.declared.path.Step.{Step}
 
--- where no place is negative, a read finds what look-up finds
-abbrev pub ReadsByLookUp : Type 0
-ReadsByLookUp = (t : Tree) (p : List Step) → IsPlain p → signed_raw_at t p ≡ raw_at t (plain p)
+-- what a read finds is what look-up finds at the steps that the path stands for
+abbrev pub ReadsAreLookUps : Type 0
+ReadsAreLookUps = (t : Tree) (p : List Step) → IfSome (read_at t p) (λ u. raw_at t (steps_in t p) ≡ there u)
+
+-- a set is one of one step, to the part behind the first step with a set at the rest of the path
+abbrev pub SetsGoOn : Type 0
+SetsGoOn = (v : Tree) (s : Step) (p : List Step) (n w : Tree) → IsSet v (s ∷ p) n w
+    → (t : Tree) × IsSet (part_behind v s) p n t × IsPlainSet (front_padded v s) (step_in v s ∷ []) t w
 
 -- among the trees in order a set has one result
 abbrev pub SetsAreOne : Type 0

@@ -1,4 +1,5 @@
 pub mod Fault
+pub mod FromEnd
 pub mod Laws
 pub mod Parts
 pub mod Read

@@ -2,15 +2,10 @@
 use Rattle.std.specs.Prelude.{◌≡◌, ◌≢◌, ℕ, suc, ◌<◌, ◌≤◌, List, [], ◌∷◌, ◌++◌, Option, None}
 use Rattle.vrl_value.specs.Look.{Step, field, place, missing, raw_at, found_behind}
 use Rattle.vrl_value.specs.Tree.{Tree}
-use Rattle.vrl_path.specs.Read.{tree_found}
-use Rattle.vrl_path.specs.Steps.{plain}
+use Rattle.vrl_path.specs.FromEnd.{steps_in}
+use Rattle.vrl_path.specs.Read.{read_at}
 use Rattle.vrl_path.specs.Write.{Holds}
 use Rattle.vrl_path.specs.declared.path.Step.{Step as CodeStep}
-
--- the sub-tree that a removal at a plain path takes out: the one at the path, but not the whole
-abbrev pub plain_removable_at : Tree → List Step → Option Tree
-plain_removable_at t [] = None
-plain_removable_at t (s ∷ p) = tree_found (raw_at t (s ∷ p))
 
 -- w is v without its sub-tree at the plain path p: what stands at the path q, by how q stands to p
 pub record IsPlainRemoval (v : Tree) (p : List Step) (w : Tree) : Type 0 where
@@ -33,10 +28,11 @@ pub record IsPlainRemoval (v : Tree) (p : List Step) (w : Tree) : Type 0 where
   pub field_at_place : (a : List Step) (i : ℕ) (l : List ℕ) (b : List Step) → p ≡ a ++ place i ∷ []
       → raw_at w (a ++ field l ∷ b) ≡ raw_at v (a ++ field l ∷ b)
 
--- the same at a path; a place counts from the start, and what a negative one means where something
--- is removed is left open
+-- the sub-tree that a removal takes out: what a read finds at the path, but not the whole
 abbrev pub removable_at : Tree → List CodeStep → Option Tree
-removable_at v p = plain_removable_at v (plain p)
+removable_at v [] = None
+removable_at v (s ∷ p) = read_at v (s ∷ p)
 
+-- the same at a path at which something stands: a negative place stands for one from the start
 abbrev pub IsRemoved : Tree → List CodeStep → Tree → Type 0
-IsRemoved v p w = IsPlainRemoval v (plain p) w
+IsRemoved v p w = IsPlainRemoval v (steps_in v p) w

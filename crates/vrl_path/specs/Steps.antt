@@ -1,39 +1,32 @@
--- The paths of the code as plain paths, which have no negative places, and the conditions of the
--- calls that change a value.
-use Rattle.std.specs.Prelude.{ℕ, pos, negsuc, List, map, All, ◌≤◌, ⊤}
-use Rattle.vrl_value.specs.Look.{Step, field, place}
-use Rattle.vrl_path.specs.declared.path.Step.{Step as CodeStep}
+-- The places of paths: which count from the end, and which may be written.
+use Rattle.std.specs.Prelude.{ℕ, suc, pos, negsuc, Bool, true, false, List, All, ◌≤◌, ⊤}
+use Rattle.std.specs.List.{list_any}
+use Rattle.vrl_path.specs.declared.path.Step.{Step}
 use Rattle.vrl_path.specs.declared.path.Step.TheVariants.{Field, Place}
 
--- the plain step of a step that is no negative place; for a negative place it has no meaning
-abbrev pub plain_step : CodeStep → Step
-plain_step (Field k) = field k
-plain_step (Place (pos i)) = place i
-plain_step (Place (negsuc i)) = place 0
+-- the step is a negative place, which counts from the end of an array
+abbrev pub is_negative : Step → Bool
+is_negative (Field k) = false
+is_negative (Place (pos i)) = false
+is_negative (Place (negsuc i)) = true
 
-abbrev pub plain : List CodeStep → List Step
-plain = map plain_step
-
--- the step is no negative place
-abbrev pub IsPlainStep : CodeStep → Type 0
-IsPlainStep (Field k) = ⊤
-IsPlainStep (Place (pos i)) = ⊤
-IsPlainStep (Place (negsuc i)) = ⊥
-
--- no step is a negative place
-abbrev pub IsPlain : List CodeStep → Type 0
-IsPlain = All IsPlainStep
+abbrev pub has_negative : List Step → Bool
+has_negative = list_any is_negative
 
 -- the greatest place that can be written
 abbrev pub last_place : ℕ
 last_place = 65535
 
--- the step is no place outside of 0 to 65,535
-abbrev pub IsWritableStep : CodeStep → Type 0
+-- how far from the end of an array a place that can be written is at most: the last one is 1
+abbrev pub farthest_from_end : ℕ
+farthest_from_end = 65536
+
+-- the step is no place outside of -65,536 to 65,535
+abbrev pub IsWritableStep : Step → Type 0
 IsWritableStep (Field k) = ⊤
 IsWritableStep (Place (pos i)) = i ≤ last_place
-IsWritableStep (Place (negsuc i)) = ⊥
+IsWritableStep (Place (negsuc i)) = suc i ≤ farthest_from_end
 
--- each place is from 0 to 65,535
-abbrev pub IsWritable : List CodeStep → Type 0
+-- each place is from -65,536 to 65,535
+abbrev pub IsWritable : List Step → Type 0
 IsWritable = All IsWritableStep

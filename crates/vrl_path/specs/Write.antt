@@ -2,23 +2,10 @@
 use Rattle.std.specs.Prelude.{◌≡◌, ◌≢◌, ℕ, ◌+◌, ◌<◌, ◌≤◌, List, [], ◌∷◌, ◌++◌, length, max}
 use Rattle.vrl_value.specs.Depth.{depth_of}
 use Rattle.vrl_value.specs.Look.{Step, field, place, Found, there, missing, no_place, raw_at, found_behind}
-use Rattle.vrl_value.specs.Tree.{Tree, null, array, object, Items, no_items, Members, no_members, IsOrdered}
-use Rattle.vrl_path.specs.Steps.{plain}
+use Rattle.vrl_value.specs.Tree.{Tree, null, array, object, IsOrdered}
+use Rattle.vrl_path.specs.FromEnd.{padded, steps_in}
+use Rattle.vrl_path.specs.Parts.{items_in, members_in}
 use Rattle.vrl_path.specs.declared.path.Step.{Step as CodeStep}
-
--- the members of an object; of what is no object those of the empty one
-abbrev pub members_in : Found → Members
-members_in (there (object ms)) = ms
-members_in (there t) = no_members
-members_in missing = no_members
-members_in no_place = no_members
-
--- the items of an array; of what is no array those of the empty one
-abbrev pub items_in : Found → Items
-items_in (there (array ts)) = ts
-items_in (there t) = no_items
-items_in missing = no_items
-items_in no_place = no_items
 
 -- a container that the step fits
 abbrev pub Holds : Step → Found → Type 0
@@ -52,10 +39,10 @@ pub record IsPlainSet (v : Tree) (p : List Step) (n w : Tree) : Type 0 where
   pub field_at_place : (a : List Step) (i : ℕ) (l : List ℕ) (r b : List Step) → p ≡ a ++ place i ∷ r
       → raw_at w (a ++ field l ∷ b) ≡ no_place
 
--- w is v with n set at the path p; a place counts from the start, and what a negative one means
--- where something is written is left open
+-- w is v with n set at the path p: nulls come in front of each array that is too short for a
+-- negative place of p, and the place that this stands for counts from the start
 abbrev pub IsSet : Tree → List CodeStep → Tree → Tree → Type 0
-IsSet v p n w = IsPlainSet v (plain p) n w
+IsSet v p n w = IsPlainSet (padded v p) (steps_in v p) n w
 
 -- the greatest depth that a set may leave
 abbrev pub depth_limit : ℕ

@@ -1,12 +1,13 @@
-ghost use Rattle.std.specs.Prelude.{◌↔◌, ◌≤◌, ◌≡◌, ◌+◌, [], length, option_map, IsTrue};
-ghost use Rattle.vrl_path.specs.Steps.{plain, IsWritable};
-ghost use Rattle.vrl_path.specs.Trees.{items_if_array, members_if_object, plain_set_tree, set_in_fields, set_in_items, set_tree};
+ghost use Rattle.std.specs.Prelude.{◌↔◌, ◌<◌, ◌≤◌, ◌≡◌, ◌+◌, [], ◌∷◌, length, option_map, IsTrue};
+ghost use Rattle.vrl_path.specs.Steps.{IsWritable, IsWritableStep};
+ghost use Rattle.vrl_path.specs.Trees.{items_if_array, members_if_object, set_in_fields, set_in_items, set_tree};
 ghost use Rattle.vrl_path.specs.Write.{depth_limit};
 ghost use Rattle.vrl_value.specs.Depth.{depth_of, items_depth, members_depth};
 ghost use Rattle.vrl_value.specs.Parts.{put_item, without};
-ghost use Rattle.vrl_value.specs.Tree.{Tree, member, no_members};
+ghost use Rattle.vrl_value.specs.Tree.{Tree, array, member, no_members};
 ghost use Rattle.vrl_value.specs.View.{items_of as list_of, members_of, members_view, tree_of};
 
+use crate::parts::index;
 use crate::path::Step;
 use std::collections::BTreeMap;
 use vrl_value::{Fields, Items, Value, members_are_maps};
@@ -41,7 +42,7 @@ fn fits_at(value: &Value, steps: &[Step], limit: u64) -> bool
     requires room { length steps.now ≤ limit }
     requires small { limit ≤ depth_limit }
     ensures { (n : Tree) → length steps.now + depth_of n ≤ limit
-        → (IsTrue result ↔ (depth_of (plain_set_tree (tree_of value.now) (plain steps.now) n) ≤ limit)) }
+        → (IsTrue result ↔ (depth_of (set_tree (tree_of value.now) steps.now n) ≤ limit)) }
 {
     let [step, rest @ ..] = steps else {
         return true;
@@ -52,7 +53,7 @@ fn fits_at(value: &Value, steps: &[Step], limit: u64) -> bool
             None => true,
         },
         Step::Place(place) => match items_of(value) {
-            Some(items) => item_fits(items, place.unsigned_abs() as usize, rest, limit - 1),
+            Some(items) => place_fits(items, *place, rest, limit),
             None => true,
         },
     }
@@ -87,11 +88,29 @@ fn field_fits(fields: &Fields, name: &str, steps: &[Step], limit: u64) -> bool
     requires small { limit ≤ depth_limit }
     ensures { (n : Tree) → length steps.now + depth_of n ≤ limit
         → (IsTrue result
-        ↔ (members_depth (set_in_fields name.now (members_of fields.now) (plain steps.now) n) ≤ limit)) }
+        ↔ (members_depth (set_in_fields name.now (members_of fields.now) steps.now n) ≤ limit)) }
 {
     match fields.get(name) {
         Some(part) => fits_at(part, steps, limit) && fields_fit(fields, name, limit),
         None => fields_fit(fields, name, limit),
+    }
+}
+
+// Whether an array of these items is within a limit of depth with a new value at the end of the
+// steps in the one at a place, which may count from the end.
+#[cycle(fits)]
+fn place_fits(items: &Items, place: i64, steps: &[Step], limit: u64) -> bool
+    requires place { IsWritableStep (Step.Place place) }
+    requires writable { IsWritable steps.now }
+    requires room { length steps.now < limit }
+    requires small { limit ≤ depth_limit }
+    ensures { (n : Tree) → length steps.now + depth_of n < limit
+        → (IsTrue result ↔ (depth_of (set_tree (array (list_of items.now)) (Step.Place place ∷ steps.now) n) ≤ limit)) }
+{
+    let count = items.len();
+    match index(count, place) {
+        Some(index) => item_fits(items, index, steps, limit - 1),
+        None => items_fit(items, count, limit - 1),
     }
 }
 
@@ -103,7 +122,7 @@ fn item_fits(items: &Items, place: usize, steps: &[Step], limit: u64) -> bool
     requires room { length steps.now ≤ limit }
     requires small { limit ≤ depth_limit }
     ensures { (n : Tree) → length steps.now + depth_of n ≤ limit
-        → (IsTrue result ↔ (items_depth (set_in_items place (list_of items.now) (plain steps.now) n) ≤ limit)) }
+        → (IsTrue result ↔ (items_depth (set_in_items place (list_of items.now) steps.now n) ≤ limit)) }
 {
     match items.get(place) {
         Some(part) => fits_at(part, steps, limit) && items_fit(items, place, limit),

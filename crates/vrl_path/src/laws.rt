@@ -1,12 +1,21 @@
-ghost use Rattle.vrl_path.specs.Laws.{ReadsByLookUp, RemovalsAreOne, RemovedTreesAreRemovals, SetTreesAreSets, SetsAreOne, SetsDeepen};
+ghost use Rattle.vrl_path.specs.Laws.{ReadsAreLookUps, RemovalsAreOne, RemovedTreesAreRemovals, SetTreesAreSets, SetsAreOne, SetsDeepen, SetsGoOn};
 
 use vrl_value::{items_are_lists, members_are_maps, trees_are_told, trees_stay_in_order};
 
-/// Where no place of a path is negative, a read finds what look-up finds. This takes no time: it is
-/// a law about the definitions.
+/// What a read finds at a path is what look-up finds at the steps that the path stands for. This
+/// takes no time: it is a law about the definitions.
 pub fn reads_are_look_ups()
-    ensures { ReadsByLookUp }
+    ensures { ReadsAreLookUps }
 {}
+
+/// A set at a path of one step at least is a set of one step, to the part behind that step with a
+/// set at the rest of the path. This takes no time: it is a law about the definitions.
+pub fn sets_go_on()
+    ensures { SetsGoOn }
+{
+    members_are_maps();
+    items_are_lists();
+}
 
 /// Among the trees in order, a tree set at a path of another has one result. This takes no time: it
 /// is a law about the definitions.

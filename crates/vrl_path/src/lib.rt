@@ -2,9 +2,9 @@
 //! removed there.
 //!
 //! Files: `path.rt` has steps and paths, `read.rt` what is read, `write.rt` `set` and `put`,
-//! `build.rt` new containers for the missing rest of a path, `depth.rt` whether a set is within the
-//! limit, `removal.rt` `remove`, `parts.rt` one step, `fault.rt` why a set is refused, and
-//! `laws.rt` the laws.
+//! `build.rt` new containers for the missing rest of a path and new items in front of others,
+//! `depth.rt` whether a set is within the limit, `removal.rt` `remove`, `parts.rt` one step,
+//! `fault.rt` why a set is refused, and `laws.rt` the laws.
 #![tactic(auto)]
 
 mod build;
@@ -21,9 +21,10 @@ pub use depth::DEPTH_LIMIT;
 pub use fault::SetFault;
 pub use laws::{
     reads_are_look_ups, removals_are_one, removed_trees_are_removals, set_trees_are_sets,
-    sets_are_one, sets_deepen,
+    sets_are_one, sets_deepen, sets_go_on,
 };
-pub use path::{PLACE_LIMIT, Path, Step};
+pub use parts::index;
+pub use path::{LEAST_PLACE, PLACE_LIMIT, Path, Step};
 pub use read::{exists, get};
 pub use removal::remove;
 pub use write::{put, set};

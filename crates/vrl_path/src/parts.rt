@@ -1,12 +1,10 @@
-ghost use Rattle.std.specs.Prelude.{◌≡◌, option_map};
-ghost use Rattle.vrl_path.specs.Parts.{without_part};
+ghost use Rattle.std.specs.Prelude.{◌≡◌, option_map, [], ◌∷◌};
 ghost use Rattle.vrl_path.specs.Read.{place_of, signed_part_at, tree_found};
-ghost use Rattle.vrl_path.specs.Steps.{plain_step, IsPlainStep};
-ghost use Rattle.vrl_value.specs.Look.{part_at};
+ghost use Rattle.vrl_path.specs.Trees.{remove_tree};
 ghost use Rattle.vrl_value.specs.View.{tree_of};
 
 use crate::path::Step;
-use vrl_value::Value;
+use vrl_value::{Value, items_are_lists, members_are_maps};
 
 /// The part of a value at a step. `None`: there is none.
 pub fn part<'a>(value: &'a Value, step: &Step) -> Option<&'a Value>
@@ -19,8 +17,8 @@ pub fn part<'a>(value: &'a Value, step: &Step) -> Option<&'a Value>
     }
 }
 
-// The place among this many, counted from the start. `None`: it is before the first.
-fn index(count: usize, place: i64) -> Option<usize>
+/// The place among this many, counted from the start. `None`: it is before the first.
+pub fn index(count: usize, place: i64) -> Option<usize>
     ensures { result ≡ place_of count place }
 {
     let distance = place.unsigned_abs() as usize;
@@ -31,16 +29,16 @@ fn index(count: usize, place: i64) -> Option<usize>
     }
 }
 
-/// Takes out the part of a value at a step that is no negative place. `None`: there is none, and
-/// the value stays as it was.
+/// Takes out the part of a value at a step. `None`: there is none, and the value stays as it was.
 pub fn take_part(value: &mut Value, step: &Step) -> Option<Value>
-    requires { IsPlainStep step.now }
-    ensures value { option_map tree_of result ≡ tree_found (part_at (tree_of value.old) (plain_step step.now)) }
-    ensures rest { tree_of value.new ≡ without_part (plain_step step.now) (tree_of value.old) }
+    ensures value { option_map tree_of result ≡ tree_found (signed_part_at (tree_of value.old) step.now) }
+    ensures rest { tree_of value.new ≡ remove_tree (tree_of value.old) (step.now ∷ []) }
 {
+    members_are_maps();
+    items_are_lists();
     match (value, step) {
         (Value::Object(fields), Step::Field(name)) => fields.remove(name.as_str()),
-        (Value::List(items), Step::Place(place)) => items.remove(place.unsigned_abs() as usize),
+        (Value::List(items), Step::Place(place)) => items.remove(index(items.len(), *place)?),
         _ => None,
     }
 }

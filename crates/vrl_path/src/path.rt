@@ -7,6 +7,9 @@ use vrl_value::{Chars, Memory};
 /// The greatest place that can be written.
 pub const PLACE_LIMIT: i64 = 65_535;
 
+/// The least place that can be written: the farthest one from the end of an array.
+pub const LEAST_PLACE: i64 = -65_536;
+
 /// One step of a path, from an array or an object to a part of it.
 #[derive(Drop)]
 pub enum Step {

@@ -1,11 +1,13 @@
 -- One field of a kind is changed in its place: what a write, or a removal, makes of the whole by what it makes of that field.
-use Rattle.std.proofs.Common.{◌≡◌, ℕ, ◌<◌, Bool, true, false, not, List, [], ◌∷◌, length, Ordering, Less, Equal, Greater, refl, sym, ap, ◌∙◌, arith}
+use Rattle.std.proofs.Common.{◌≡◌, ℕ, ◌<◌, Bool, true, false, not, List, [], ◌∷◌, length, Ordering, Less, Equal, Greater, refl, sym, ap, ◌∙◌, subst}
 use Rattle.std.proofs.lemmas.Bool.{true≢false}
 use Rattle.std.specs.Cmp.Lexicographic.{slice_cmp}
 use Rattle.std.specs.Ordering.{nat_cmp, match_ordering}
 use Rattle.vrl_value.specs.Look.{Step, field, place}
 use Rattle.vrl_value.specs.declared.value.Tag.{Tag}
 use Rattle.vrl_value.specs.declared.value.Tag.TheVariants as tag
+use Rattle.vrl_path.specs.declared.path.Step.{Step as CodeStep}
+use Rattle.vrl_path.specs.declared.path.Step.TheVariants.{Field}
 use Rattle.vrl_kind.specs.Canonical.{object_tree}
 use Rattle.vrl_kind.specs.Fields.{IsTaken, knows_field, knows_name, object_knows, put_at}
 use Rattle.vrl_kind.specs.KindTree.{KindTree, kind, ObjectTree, no_object, object_part, KnownFields, no_fields, known_field, RestTree}
@@ -13,11 +15,11 @@ use Rattle.vrl_kind.specs.Kinds.{SameTags, fields_at, never_at, object_at, only_
 use Rattle.vrl_kind.specs.Sets.{Sets, SameSets}
 use Rattle.vrl_kind.specs.Tags.{Tags, only, same_tag}
 use Rattle.vrl_place.specs.Inner.{AreOtherFields}
-use Rattle.vrl_place.specs.Remove.{gone, plain_remove}
+use Rattle.vrl_place.specs.Remove.{IsRemoval, gone, with_part, without_part}
 use Rattle.vrl_place.specs.Sets.{has_other, is_alone, or_absent_if, part}
-use Rattle.vrl_place.specs.Write.{opened, plain_write}
+use Rattle.vrl_place.specs.Write.{IsWrite, opened, put}
 use Rattle.vrl_place.proofs.Orders.{one_name, tags_cases}
-use Rattle.vrl_place.proofs.Removing.{changed_as, changed_sets, field_gone, inner_removed, is_gone, no_list_at}
+use Rattle.vrl_place.proofs.Removing.{field_gone, is_gone, no_list_at, part_as, part_taken}
 use Rattle.vrl_place.proofs.Same.{not_absent, one_sets}
 use Rattle.vrl_place.proofs.Tags.{first_of_both, not_alone, one_tag, same_itself}
 use Rattle.vrl_place.proofs.Views.{tags_field}
@@ -69,7 +71,7 @@ no_others K S e same = record { at = λ n not p t. same p t ∙ ap (λ o. object
 
 -- ---- a field that is put in its place
 
-put_changed : (k : List ℕ) (I A : Sets) → SameSets (put_at k I A) (changed_sets A (field k) I)
+put_changed : (k : List ℕ) (I A : Sets) → SameSets (put_at k I A) (with_part A (field k) I)
 put_changed k I A [] t = refl
 put_changed k I A (place i ∷ p) t = refl
 put_changed k I A (field n ∷ p) t = refl
@@ -113,62 +115,54 @@ taken_root n W H P t taken is = taken.left [] t ∙ is
 
 -- ---- writes
 
--- the same of sets that are the same
-pub write_from : (A B N K : Sets) (p : List Step) → SameSets A B → SameSets K (plain_write A p N) → SameSets K (plain_write B p N)
-write_from A B N K p same is x t = is x t ∙ ap (λ C. plain_write C p N x t) (one_sets A B same)
-
 opened_alone : (A : Sets) (n : List ℕ) → is_alone (A []) tag.Object ≡ true → (q : List Step) (t : Tag) → opened A (field n) q t ≡ part A (field n) q t
 opened_alone A n alone q t = ap (λ b. or_absent_if (not b) (part A (field n)) q t) alone ∙ not_absent (part A (field n)) q t
 
-pub written_alone : (K : KindTree) (N I B : Sets) (r : List Step) (k : List ℕ) → is_alone (tags_at K []) tag.Object ≡ true → SameSets I (plain_write (part (tags_at K) (field k)) r N) → SameSets B (put_at k I (tags_at K))
-    → SameSets B (plain_write (tags_at K) (field k ∷ r) N)
-written_alone K N I B r k alone inner made [] t = made [] t ∙ alone_only (tags_at K []) tag.Object t alone
-written_alone K N I B r k alone inner made (place i ∷ q) t = made (place i ∷ q) t ∙ no_list_at K (alone_only (tags_at K []) tag.Object tag.List alone) i q t
-written_alone K N I B r k alone inner made (field n ∷ q) t =
-    made (field n ∷ q) t
-    ∙ tags_cases (slice_cmp nat_cmp n k) _ _ _ _ _ _ t
-    (sym (opened_alone (tags_at K) n alone q t))
-    (inner q t ∙ ap (λ C. plain_write C r N q t) (sym (one_sets (opened (tags_at K) (field k)) (part (tags_at K) (field k)) (opened_alone (tags_at K) k alone))))
-    (sym (opened_alone (tags_at K) n alone q t))
+pub written_alone : (K : KindTree) (N I B : Sets) (r : List CodeStep) (k : List ℕ) → is_alone (tags_at K []) tag.Object ≡ true → IsWrite (part (tags_at K) (field k)) r N I → SameSets B (put_at k I (tags_at K))
+    → IsWrite (tags_at K) (Field k ∷ r) N B
+written_alone K N I B r k alone inner made = (I, subst (λ C. IsWrite C r N I) (sym (one_sets (opened (tags_at K) (field k)) (part (tags_at K) (field k)) (opened_alone (tags_at K) k alone))) inner, same)
+  where
+    same : SameSets B (put (tags_at K) (field k) I)
+    same [] t = made [] t ∙ alone_only (tags_at K []) tag.Object t alone
+    same (place i ∷ q) t = made (place i ∷ q) t ∙ no_list_at K (alone_only (tags_at K []) tag.Object tag.List alone) i q t
+    same (field n ∷ q) t =
+        made (field n ∷ q) t
+        ∙ tags_cases (slice_cmp nat_cmp n k) _ _ _ _ _ _ t
+        (sym (opened_alone (tags_at K) n alone q t)) refl (sym (opened_alone (tags_at K) n alone q t))
 
-pub written_others : (K : KindTree) (N S I B : Sets) (r : List Step) (k : List ℕ) → is_alone (tags_at K []) tag.Object ≡ true → knows_field k K ≡ false → AreOtherFields K S → SameSets I (plain_write S r N) → SameSets B (put_at k I (tags_at K))
-    → SameSets B (plain_write (tags_at K) (field k ∷ r) N)
+pub written_others : (K : KindTree) (N S I B : Sets) (r : List CodeStep) (k : List ℕ) → is_alone (tags_at K []) tag.Object ≡ true → knows_field k K ≡ false → AreOtherFields K S → IsWrite S r N I → SameSets B (put_at k I (tags_at K))
+    → IsWrite (tags_at K) (Field k ∷ r) N B
 written_others K N S I B r k alone not others inner made =
-    written_alone K N I B r k alone (λ q t. inner q t ∙ ap (λ C. plain_write C r N q t) (one_sets S (part (tags_at K) (field k)) (others.at k not))) made
+    written_alone K N I B r k alone (subst (λ C. IsWrite C r N I) (one_sets S (part (tags_at K) (field k)) (others.at k not)) inner) made
 
-pub written_known : (W H P : KindTree) (N I B : Sets) (r : List Step) (k : List ℕ) → is_alone (tags_at W []) tag.Object ≡ true → IsTaken k W H P → SameSets I (plain_write (tags_at P) r N) → SameSets B (put_at k I (tags_at H))
-    → SameSets B (plain_write (tags_at W) (field k ∷ r) N)
+pub written_known : (W H P : KindTree) (N I B : Sets) (r : List CodeStep) (k : List ℕ) → is_alone (tags_at W []) tag.Object ≡ true → IsTaken k W H P → IsWrite (tags_at P) r N I → SameSets B (put_at k I (tags_at H))
+    → IsWrite (tags_at W) (Field k ∷ r) N B
 written_known W H P N I B r k alone taken inner made =
-    written_alone W N I B r k alone (λ q t. inner q t ∙ ap (λ C. plain_write C r N q t) (one_sets (tags_at P) (part (tags_at W) (field k)) taken.taken))
+    written_alone W N I B r k alone (subst (λ C. IsWrite C r N I) (one_sets (tags_at P) (part (tags_at W) (field k)) taken.taken) inner)
     (λ p t. made p t ∙ put_for k W H P I taken p t)
 
 -- ---- removals
 
-pub remove_from : (A B K : Sets) (p : List Step) → SameSets A B → SameSets K (plain_remove A p) → SameSets K (plain_remove B p)
-remove_from A B K p same is x t = is x t ∙ ap (λ C. plain_remove C p x t) (one_sets A B same)
+pub remove_from : (A B K : Sets) (p : List CodeStep) → SameSets A B → IsRemoval A p K → IsRemoval B p K
+remove_from A B K p same is = subst (λ C. IsRemoval C p K) (one_sets A B same) is
 
-removed_part : (A I B : Sets) (r : List Step) (k : List ℕ) → 0 < length r → SameSets I (plain_remove (part A (field k)) r) → SameSets B (put_at k I A) → SameSets B (plain_remove A (field k ∷ r))
-removed_part A I B [] k some inner made p t = absurd (omega arith)
-removed_part A I B (s ∷ r) k some inner made p t =
-    made p t
-    ∙ put_changed k I A p t
-    ∙ changed_as A I (plain_remove (part A (field k)) (s ∷ r)) (field k) inner p t
-    ∙ inner_removed A (field k) s r p t
+removed_part : (A I B : Sets) (r : List CodeStep) (k : List ℕ) → 0 < length r → IsRemoval (part A (field k)) r I → SameSets B (put_at k I A) → IsRemoval A (Field k ∷ r) B
+removed_part A I B r k some inner made = part_taken A I B (field k) r (λ C W. IsRemoval C r W) some inner (λ p t. made p t ∙ put_changed k I A p t)
 
-pub removed_whole : (A B J : Sets) (k : List ℕ) → A [] tag.Object ≡ true → ((p : List Step) → J p ≡ only_at tag.Absent p) → SameSets B (put_at k J A) → SameSets B (plain_remove A (field k ∷ []))
+pub removed_whole : (A B J : Sets) (k : List ℕ) → A [] tag.Object ≡ true → ((p : List Step) → J p ≡ only_at tag.Absent p) → SameSets B (put_at k J A) → SameSets B (without_part A (field k))
 removed_whole A B J k is absent made p t =
     made p t
     ∙ put_changed k J A p t
-    ∙ changed_as A J (gone (A [])) (field k) (λ q u. ap (λ T. T u) (absent q) ∙ is_gone (A []) is q u) p t
+    ∙ part_as A J (gone (A [])) (field k) (λ q u. ap (λ T. T u) (absent q) ∙ is_gone (A []) is q u) p t
     ∙ field_gone A k p t
 
-pub removed_others : (K : KindTree) (S I B : Sets) (r : List Step) (k : List ℕ) → 0 < length r → knows_field k K ≡ false → AreOtherFields K S → SameSets I (plain_remove S r) → SameSets B (put_at k I (tags_at K))
-    → SameSets B (plain_remove (tags_at K) (field k ∷ r))
+pub removed_others : (K : KindTree) (S I B : Sets) (r : List CodeStep) (k : List ℕ) → 0 < length r → knows_field k K ≡ false → AreOtherFields K S → IsRemoval S r I → SameSets B (put_at k I (tags_at K))
+    → IsRemoval (tags_at K) (Field k ∷ r) B
 removed_others K S I B r k some not others inner made =
-    removed_part (tags_at K) I B r k some (λ q t. inner q t ∙ ap (λ C. plain_remove C r q t) (one_sets S (part (tags_at K) (field k)) (others.at k not))) made
+    removed_part (tags_at K) I B r k some (subst (λ C. IsRemoval C r I) (one_sets S (part (tags_at K) (field k)) (others.at k not)) inner) made
 
-pub removed_known : (W H P : KindTree) (I B : Sets) (r : List Step) (k : List ℕ) → 0 < length r → IsTaken k W H P → SameSets I (plain_remove (tags_at P) r) → SameSets B (put_at k I (tags_at H))
-    → SameSets B (plain_remove (tags_at W) (field k ∷ r))
+pub removed_known : (W H P : KindTree) (I B : Sets) (r : List CodeStep) (k : List ℕ) → 0 < length r → IsTaken k W H P → IsRemoval (tags_at P) r I → SameSets B (put_at k I (tags_at H))
+    → IsRemoval (tags_at W) (Field k ∷ r) B
 removed_known W H P I B r k some taken inner made =
-    removed_part (tags_at W) I B r k some (λ q t. inner q t ∙ ap (λ C. plain_remove C r q t) (one_sets (tags_at P) (part (tags_at W) (field k)) taken.taken))
+    removed_part (tags_at W) I B r k some (subst (λ C. IsRemoval C r I) (one_sets (tags_at P) (part (tags_at W) (field k)) taken.taken) inner)
     (λ p t. made p t ∙ put_for k W H P I taken p t)

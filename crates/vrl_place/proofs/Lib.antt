@@ -1,6 +1,9 @@
 pub mod Changed
+pub mod Counts
 pub mod InPlace
+pub mod Lengths
 pub mod Looked
+pub mod OneResult
 pub mod Orders
 pub mod Reading
 pub mod Removed

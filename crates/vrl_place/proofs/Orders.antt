@@ -1,5 +1,5 @@
 -- Steps in order, and a case for each order.
-use Rattle.std.proofs.Common.{◌≡◌, ◌≢◌, ℕ, ◌<◌, true, false, List, Ordering, Less, Equal, Greater, is_eq, refl, sym, ap, ◌∙◌}
+use Rattle.std.proofs.Common.{◌≡◌, ◌≢◌, ℕ, ◌<◌, true, false, List, Some, Ordering, Less, Equal, Greater, is_eq, refl, sym, ap, ◌∙◌}
 use Rattle.std.proofs.lemmas.Bool.{true≢false}
 use Rattle.std.proofs.lemmas.Cmp.{nat_cmp_total, nat_list_cmp_total, tied_itself, ranked}
 use Rattle.std.proofs.lemmas.Map.Text.{is_eq-slice_cmp}
@@ -31,6 +31,9 @@ itself k = tied_itself nat_cmp_total k
 
 pub above : (i k : ℕ) → k < i → nat_cmp i k ≡ Greater
 above i k h = sym (nat_cmp_is i k Greater h)
+
+pub some_is : (i j : ℕ) → Some i ≡ Some j → i ≡ j
+some_is i j same = cc
 
 pub under : (j i : ℕ) → nat_cmp j i ≡ Less → j < i
 under j i e = ranked j i Less (sym e)

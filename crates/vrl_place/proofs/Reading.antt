@@ -11,11 +11,11 @@ use Rattle.vrl_kind.specs.Change.{null_for_absent}
 use Rattle.vrl_kind.specs.Kinds.{IsParts, step_tag, tags_at, without_at}
 use Rattle.vrl_kind.specs.Sets.{Sets, SameSets}
 use Rattle.vrl_kind.specs.Tags.{Tags, same_tag}
-use Rattle.vrl_place.specs.Inner.{AreSomePlaces}
+use Rattle.vrl_place.specs.FromEnd.{AreSomePlaces}
 use Rattle.vrl_place.specs.Read.{Allowed, HasJust, allowed, read, read_part, read_some_place, read_step}
 use Rattle.vrl_place.specs.Sets.{has_other, or_absent_if, part}
 use Rattle.vrl_place.proofs.Same.{one_sets}
-use Rattle.vrl_place.proofs.Tags.{both, differ, first_of_both, left_of, not_same, one_of_both, one_tag, other_there, right_of, second_of_both, some_other}
+use Rattle.vrl_place.proofs.Tags.{both, differ, first_of_both, left_of, not_same, not_true, one_of_both, one_tag, other_there, right_of, second_of_both, some_other}
 
 abbrev Within : Allowed → Allowed → Type 0
 Within A B = (p : List Step) (t : Tag) → A p t → B p t
@@ -122,10 +122,6 @@ no_absent_step A (Place (negsuc i)) (inr e) = absent_not_null e
 no_absent_read : (r : List CodeStep) (A : Allowed) → (A [] tag.Absent → ⊥) → read A r [] tag.Absent → ⊥
 no_absent_read [] A none h = none h
 no_absent_read (s ∷ r) A none h = no_absent_read r (read_step A s) (no_absent_step A s) h
-
-not_true : (b : Bool) → (b ≡ true → ⊥) → b ≡ false
-not_true true h = absurd (h refl)
-not_true false h = refl
 
 pub read_present : (A K : Sets) (r : List CodeStep) → HasJust K (read (allowed A) r) → A [] tag.Absent ≡ false → K [] tag.Absent ≡ false
 read_present A K r has present = not_true (K [] tag.Absent) (λ h. no_absent_read r (allowed A) (λ a. true≢false (sym a ∙ present)) ((has [] tag.Absent).0 h))

@@ -35,6 +35,17 @@ same_itself tag.List = refl
 same_itself tag.Object = refl
 same_itself tag.Absent = refl
 
+pub absent_sym : (t : Tag) → same_tag tag.Absent t ≡ same_tag t tag.Absent
+absent_sym tag.Text = refl
+absent_sym tag.Int = refl
+absent_sym tag.Bool = refl
+absent_sym tag.Null = refl
+absent_sym tag.Time = refl
+absent_sym tag.Pattern = refl
+absent_sym tag.List = refl
+absent_sym tag.Object = refl
+absent_sym tag.Absent = refl
+
 not_same_at : (t u : Tag) (b : Bool) → same_tag t u ≡ b → t ≢ u → not b ≡ true
 not_same_at t u true is ne = absurd (ne (one_tag t u is))
 not_same_at t u false is ne = refl
@@ -56,6 +67,15 @@ first_of_both false b h = absurd (true≢false (sym h))
 pub second_of_both : (a b : Bool) → (a && b) ≡ true → b ≡ true
 second_of_both true b h = h
 second_of_both false b h = absurd (true≢false (sym h))
+
+pub not_true : (b : Bool) → (b ≡ true → ⊥) → b ≡ false
+not_true true h = absurd (h refl)
+not_true false h = refl
+
+-- tests that hold of each other
+pub one_truth : (a b : Bool) → (a ≡ true → b ≡ true) → (b ≡ true → a ≡ true) → a ≡ b
+one_truth true b to from = sym (to refl)
+one_truth false b to from = sym (not_true b (λ h. true≢false (sym (from h))))
 
 pub left_of : (a b : Bool) → a ≡ true → (a || b) ≡ true
 left_of true b h = refl

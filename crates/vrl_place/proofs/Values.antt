@@ -1,5 +1,5 @@
 -- Values of a kind, and what is found in them.
-use Rattle.std.proofs.Common.{◌≡◌, ◌≢◌, inl, inr, ℕ, pos, negsuc, Bool, true, IsTrue, List, [], ◌∷◌, ◌++◌, Option, Some, None, Ordering, Less, Equal, Greater, unwrap_or, refl, subst}
+use Rattle.std.proofs.Common.{◌≡◌, ◌≢◌, inl, inr, ℕ, pos, negsuc, Bool, true, ◌||◌, IsTrue, List, [], ◌∷◌, ◌++◌, Option, Some, None, Ordering, Less, Equal, Greater, unwrap_or, refl, sym, subst}
 use Rattle.std.proofs.lemmas.Option.{IfSome_then}
 use Rattle.std.specs.Option.{IfSome}
 use Rattle.std.specs.Ordering.{match_ordering}
@@ -14,14 +14,17 @@ use Rattle.vrl_path.specs.declared.path.Step.TheVariants.{Field, Place}
 use Rattle.vrl_kind.specs.Kinds.{step_tag}
 use Rattle.vrl_kind.specs.Sets.{Sets}
 use Rattle.vrl_kind.specs.Tags.{Tags}
-use Rattle.vrl_place.specs.Absence.{plain_may_be_absent}
+use Rattle.vrl_place.specs.Absence.{may_be_absent}
 use Rattle.vrl_place.specs.Read.{Allowed, AllowsOther, HasJust, allowed, read, read_part, read_some_place, read_step}
 use Rattle.vrl_place.specs.Sets.{has_other, or_absent_if, part}
-use Rattle.vrl_place.proofs.Tags.{left_of, other_there, right_of, step_present, value_present}
+use Rattle.vrl_place.proofs.Tags.{left_of, other_there, right_of, value_present}
 
 -- the value is allowed at each path
 abbrev pub IsIn : Tree → Allowed → Type 0
 IsIn v A = (p : List Step) → IfSome (tag_found (raw_at v p)) (λ t. A p t)
+
+pub some_tree : (x y : Tree) → Some x ≡ Some y → x ≡ y
+some_tree x y is = cc
 
 pub found_none : (o : Option Tree) → found_if o ≢ no_place
 found_none None e = cc
@@ -103,7 +106,7 @@ array_read : (A : Allowed) (ts : Items) → IsIn (array ts) A → (o : Option �
 array_read A ts h None = null_read A
 array_read A ts h (Some j) = some_read A j (found_if (item_at j ts)) (λ p. h (place j ∷ p))
 
-field_same : (v : Tree) (k : List ℕ) → part_at v (field k) ≡ signed_part_at v (Field k)
+pub field_same : (v : Tree) (k : List ℕ) → part_at v (field k) ≡ signed_part_at v (Field k)
 field_same (string x) k = refl
 field_same (integer x) k = refl
 field_same (boolean x) k = refl
@@ -113,7 +116,7 @@ field_same (regex x) k = refl
 field_same (array ts) k = refl
 field_same (object ms) k = refl
 
-place_same : (v : Tree) (i : ℕ) → part_at v (place i) ≡ signed_part_at v (Place (pos i))
+pub place_same : (v : Tree) (i : ℕ) → part_at v (place i) ≡ signed_part_at v (Place (pos i))
 place_same (string x) i = refl
 place_same (integer x) i = refl
 place_same (boolean x) i = refl
@@ -155,26 +158,22 @@ read_in (s ∷ r) v A h = subst (λ w. IsIn w (read (read_step A s) r)) (behind_
 pub read_inhabits : (r : List CodeStep) (v : Tree) (A K : Sets) → HasJust K (read (allowed A) r) → IsIn v (allowed A) → IsIn (unwrap_or (read_at v r) null) (allowed K)
 read_inhabits r v A K has h p = IfSome_then (tag_found (raw_at (unwrap_or (read_at v r) null) p)) (read_in r v (allowed A) h p) (λ t a. (has p t).1 a)
 
-absent_found : (A : Sets) (s : Step) (r : List Step) (f : Found) → ((p : List Step) → IfSome (tag_found (found_behind f p (λ u. raw_at u p))) (λ t. IsTrue (A (s ∷ p) t))) → (f ≡ no_place → has_other (A []) (step_tag s) ≡ true)
-    → tree_found (found_behind f r (λ u. raw_at u r)) ≡ None → ((u : Tree) → IsIn u (allowed (part A s)) → tree_found (raw_at u r) ≡ None → IsTrue (plain_may_be_absent (part A s) r)) → IsTrue (plain_may_be_absent A (s ∷ r))
+absent_found : (A : Sets) (s : Step) (r : List CodeStep) (f : Found) → ((p : List Step) → IfSome (tag_found (found_behind f p (λ u. raw_at u p))) (λ t. IsTrue (A (s ∷ p) t))) → (f ≡ no_place → has_other (A []) (step_tag s) ≡ true)
+    → tree_found (found_behind f r (λ u. signed_raw_at u r)) ≡ None → ((u : Tree) → IsIn u (allowed (part A s)) → read_at u r ≡ None → IsTrue (may_be_absent (part A s) r)) → IsTrue (has_other (A []) (step_tag s) || may_be_absent (part A s) r)
 absent_found A s r (there u) h other none later = right_of _ _ (later u h none)
 absent_found A s [] missing h other none later = right_of _ _ (h [])
-absent_found A s (t ∷ r) missing h other none later = right_of _ _ (left_of _ _ (other_there (A (s ∷ [])) (step_tag t) tag.Absent (h []) (step_present t)))
+absent_found A s (Field k ∷ r) missing h other none later = right_of _ _ (left_of _ _ (other_there (A (s ∷ [])) tag.Object tag.Absent (h []) (λ e. cc)))
+absent_found A s (Place (pos i) ∷ r) missing h other none later = right_of _ _ (left_of _ _ (other_there (A (s ∷ [])) tag.List tag.Absent (h []) (λ e. cc)))
+absent_found A s (Place (negsuc i) ∷ r) missing h other none later = right_of _ _ refl
 absent_found A s r no_place h other none later = left_of _ _ (other refl)
 
 -- where nothing is found, that may be absent
-pub absent_in : (r : List Step) (v : Tree) (A : Sets) → IsIn v (allowed A) → tree_found (raw_at v r) ≡ None → IsTrue (plain_may_be_absent A r)
+pub absent_in : (r : List CodeStep) (v : Tree) (A : Sets) → IsIn v (allowed A) → read_at v r ≡ None → IsTrue (may_be_absent A r)
 absent_in [] v A h none = cc
-absent_in (s ∷ r) v A h none = absent_found A s r (part_at v s) (λ p. h (s ∷ p)) (λ no. other_there (A []) (step_tag s) (tag_of v) (h []) (other_tag v s no)) none (λ u. absent_in r u (part A s))
-
-raw_behind : (a : List Step) (f : Found) (s : Step) (q : List Step) → ((u : Tree) → raw_at u (a ++ s ∷ q) ≡ found_behind (raw_at u a) (s ∷ q) (λ x. raw_at x (s ∷ q)))
-    → found_behind f (a ++ s ∷ q) (λ u. raw_at u (a ++ s ∷ q)) ≡ found_behind (found_behind f a (λ u. raw_at u a)) (s ∷ q) (λ u. raw_at u (s ∷ q))
-raw_behind a (there u) s q later = later u
-raw_behind [] missing s q later = refl
-raw_behind (x ∷ a) missing s q later = refl
-raw_behind a no_place s q later = refl
-
--- what more steps find
-pub raw_append : (a : List Step) (v : Tree) (s : Step) (q : List Step) → raw_at v (a ++ s ∷ q) ≡ found_behind (raw_at v a) (s ∷ q) (λ u. raw_at u (s ∷ q))
-raw_append [] v s q = refl
-raw_append (x ∷ a) v s q = raw_behind a (part_at v x) s q (λ u. raw_append a u s q)
+absent_in (Field k ∷ r) v A h none =
+    absent_found A (field k) r (part_at v (field k)) (λ p. h (field k ∷ p)) (λ no. other_there (A []) tag.Object (tag_of v) (h []) (other_tag v (field k) no))
+    (subst (λ f. tree_found (found_behind f r (λ u. signed_raw_at u r)) ≡ None) (sym (field_same v k)) none) (λ u. absent_in r u (part A (field k)))
+absent_in (Place (pos i) ∷ r) v A h none =
+    absent_found A (place i) r (part_at v (place i)) (λ p. h (place i ∷ p)) (λ no. other_there (A []) tag.List (tag_of v) (h []) (other_tag v (place i) no))
+    (subst (λ f. tree_found (found_behind f r (λ u. signed_raw_at u r)) ≡ None) (sym (place_same v i)) none) (λ u. absent_in r u (part A (place i)))
+absent_in (Place (negsuc i) ∷ r) v A h none = refl

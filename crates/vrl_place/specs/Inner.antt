@@ -1,16 +1,16 @@
 -- What inner functions promise: the parts of a kind in memory, and those of a changed kind. No public
 -- function cites these.
-use Rattle.std.specs.Prelude.{◌≡◌, ◌<◌, ◌↔◌, ◌||◌, not, Bool, true, false, ℕ, suc, ℤ, pos, negsuc, Option, Some, None, MatchOption, List, [], ◌∷◌, ◌++◌, length, IsTrue}
+use Rattle.std.specs.Prelude.{◌≡◌, ◌<◌, ◌||◌, not, Bool, true, false, ℕ, suc, ℤ, pos, negsuc, Option, Some, None, MatchOption, List, [], ◌∷◌, ◌++◌, length, IsTrue}
 use Rattle.std.specs.Cmp.Lexicographic.{slice_cmp}
 use Rattle.std.specs.Ordering.{nat_cmp, match_ordering}
 use Rattle.vrl_value.specs.Look.{Step, field, place}
 use Rattle.vrl_value.specs.declared.value.Tag.{Tag}
 use Rattle.vrl_value.specs.declared.value.Tag.TheVariants as tag
-use Rattle.vrl_kind.specs.KindTree.{KindTree, Places as KnownPlaces, KnownFields, RestTree}
+use Rattle.vrl_kind.specs.KindTree.{KindTree, Places as KnownPlaces, KnownFields, RestTree, nothing, json_rest, any_rest, exact}
 use Rattle.vrl_kind.specs.Canonical.{IsBeforeFields}
 use Rattle.vrl_kind.specs.Change.{null_for_absent}
 use Rattle.vrl_kind.specs.Fields.{knows_field, AreBefore}
-use Rattle.vrl_kind.specs.Kinds.{any_at, json_at, never_at, rest_at, tags_at, places_at, fields_at, is_absence}
+use Rattle.vrl_kind.specs.Kinds.{any_at, json_at, never_at, rest_at, tags_at, places_at, fields_at}
 use Rattle.vrl_kind.specs.Make.{named_view}
 use Rattle.vrl_kind.specs.Merge.{FieldsAreSorted}
 use Rattle.vrl_kind.specs.Sets.{Sets}
@@ -121,7 +121,12 @@ abbrev pub from_start : ℤ → Option ℕ
 from_start (pos i) = Some i
 from_start (negsuc i) = None
 
--- what A allows at some place, but for absent
-pub record AreSomePlaces (A M : Sets) : Type 0 where
-  pub at : (p : List Step) (t : Tag)
-      → IsTrue (M p t) ↔ (((i : ℕ) × IsTrue (A (place i ∷ p) t)) × IsTrue (not (is_absence p t)))
+-- what is of the kind is there
+abbrev pub is_sure : KindTree → Bool
+is_sure K = not (tags_at K [] tag.Absent)
+
+abbrev pub is_nothing : RestTree → Bool
+is_nothing nothing = true
+is_nothing json_rest = false
+is_nothing any_rest = false
+is_nothing (exact K) = false

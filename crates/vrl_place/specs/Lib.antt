@@ -1,4 +1,5 @@
 pub mod Absence
+pub mod FromEnd
 pub mod Inner
 pub mod Laws
 pub mod Read

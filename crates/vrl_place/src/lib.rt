@@ -2,12 +2,13 @@
 //! is written or removed there.
 //!
 //! Files: `spot.rt` has what stands somewhere in a kind, borrowed, `places.rt` and `fields.rt` what an array
-//! and an object have there, and each call has a file: `read.rt`, `write.rt`, `remove.rt` and `absence.rt`.
-//! `laws.rt` tells of values what these tell of kinds.
+//! and an object have there, `from_end.rt` the places that count from the end, and each call has a file: `read.rt`,
+//! `write.rt`, `remove.rt` and `absence.rt`. `laws.rt` tells of values what these tell of kinds.
 #![tactic(auto)]
 
 mod absence;
 mod fields;
+mod from_end;
 mod laws;
 mod places;
 mod read;
@@ -18,7 +19,8 @@ mod write;
 pub use absence::may_be_absent;
 pub use laws::{
     nothing_removed_is_of_the_kind, reads_are_of_their_cut, reads_are_of_their_kind,
-    removals_are_of_their_kind, writes_are_of_their_kind,
+    removals_are_of_their_kind, removals_are_one_kind, writes_are_of_their_kind,
+    writes_are_one_kind,
 };
 pub use read::read_kind;
 pub use remove::remove_kind;

@@ -1,15 +1,16 @@
 ghost use Rattle.std.specs.Prelude.{◌≡◌, IfOk, [], false, unwrap_or};
 ghost use Rattle.vrl_kind.specs.Kinds.{Inhabits, tags_at};
 ghost use Rattle.vrl_path.specs.Read.{read_at};
-ghost use Rattle.vrl_place.specs.Inner.{AreSomePlaces, from_start, spot_sets};
+ghost use Rattle.vrl_place.specs.Inner.{spot_sets};
 ghost use Rattle.vrl_place.specs.Read.{HasJust, allowed, read, read_part, read_some_place, read_step};
 ghost use Rattle.vrl_value.specs.Look.{field, place};
 ghost use Rattle.vrl_value.specs.Tree.{Tree, null};
 ghost use Rattle.vrl_value.specs.declared.value.Tag.TheVariants as tag;
 
+use crate::from_end::{from_start, some_place};
 use crate::spot::Spot;
 use std::alloc::Global;
-use vrl_kind::{Kind, parts, without};
+use vrl_kind::Kind;
 use vrl_path::{Path, Step};
 use vrl_value::{Chars, Memory, Tag};
 
@@ -88,19 +89,4 @@ fn read_some_place(alloc: Global, spot: Spot<'_>) -> Result<Kind, Memory>
     let part = some_place(alloc, spot)?;
     let open = Spot::of(&part).or_absent_if(true);
     Ok(open.kind(alloc)?.null_for_absent())
-}
-
-// The place, where it counts from the start. `None`: it counts from the end.
-fn from_start(place: i64) -> Option<usize>
-    ensures { result ≡ from_start place }
-{
-    let distance = place.unsigned_abs() as usize;
-    if place >= 0 { Some(distance) } else { None }
-}
-
-// What may stand at any place. `Memory`: want of memory.
-fn some_place(alloc: Global, spot: Spot<'_>) -> Result<Kind, Memory>
-    ensures { IfOk result (λ kind. AreSomePlaces (spot_sets spot.entry) (tags_at kind)) }
-{
-    parts(alloc, &without(alloc, &spot.kind(alloc)?, Tag::Object)?)
 }

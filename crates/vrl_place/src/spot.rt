@@ -4,13 +4,11 @@ ghost use Rattle.vrl_kind.specs.Make.{named_view};
 ghost use Rattle.vrl_kind.specs.Sets.{SameSets};
 ghost use Rattle.vrl_kind.specs.Tags.{same_tag};
 ghost use Rattle.vrl_kind.specs.View.{places_view, rest_of};
-ghost use Rattle.vrl_path.specs.Steps.{plain_step, IsPlainStep};
 ghost use Rattle.vrl_place.specs.Inner.{bare_sets, spot_sets, sets_with_list, sets_with_object};
-ghost use Rattle.vrl_place.specs.Sets.{has_other, is_alone, or_absent_if, part};
+ghost use Rattle.vrl_place.specs.Sets.{has_other, is_alone, or_absent_if};
 
 use std::alloc::Global;
 use vrl_kind::{Kind, Rest, TAGS, has};
-use vrl_path::Step;
 use vrl_value::{Chars, Memory, Tag};
 
 /// What stands somewhere in a kind, but for absent.
@@ -59,7 +57,7 @@ impl<'a> Bare<'a> {
             Bare::Nothing => Ok(Rest::Nothing),
             Bare::Json => Ok(Rest::Json),
             Bare::Any => Ok(Rest::Any),
-            Bare::Exact(kind) => Ok(Rest::Exact(Box::new(alloc, kind.copy(alloc)?)?)),
+            Bare::Exact(kind) => exact(alloc, kind.copy(alloc)?),
         }
     }
 
@@ -202,17 +200,13 @@ impl<'a> Spot<'a> {
     {
         Ok(or_absent_if(self.bare.with_object(alloc, fields, rest)?, self.absent))
     }
+}
 
-    // What stands behind a step.
-    pub(crate) fn behind(self, step: &Step) -> Spot<'a>
-        requires { IsPlainStep step.now }
-        ensures { SameSets (spot_sets result) (part (spot_sets self.entry) (plain_step step.now)) }
-    {
-        match step {
-            Step::Field(name) => self.fields().field(name),
-            Step::Place(place) => self.places().place(place.unsigned_abs() as usize),
-        }
-    }
+// The rest of which this kind stands at each place or field, which may be absent there. `Memory`: want of memory.
+pub(crate) fn exact(alloc: Global, kind: Kind) -> Result<Rest, Memory>
+    ensures { IfOk result (λ rest. SameSets (rest_at (rest_of rest)) (or_absent_if true (tags_at kind))) }
+{
+    Ok(Rest::Exact(Box::new(alloc, kind)?))
 }
 
 // The kind, which may be absent too, if that is wanted.

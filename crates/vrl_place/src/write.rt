@@ -3,34 +3,35 @@ ghost use Rattle.vrl_kind.specs.Canonical.{IsCanonical};
 ghost use Rattle.vrl_kind.specs.Fields.{knows_field, IsTaken};
 ghost use Rattle.vrl_kind.specs.KindTree.{KindTree};
 ghost use Rattle.vrl_kind.specs.Kinds.{Inhabits, tags_at};
-ghost use Rattle.vrl_kind.specs.Sets.{SameSets};
-ghost use Rattle.vrl_path.specs.Steps.{plain, plain_step, IsWritable, IsWritableStep};
+ghost use Rattle.vrl_path.specs.Steps.{IsWritable};
 ghost use Rattle.vrl_path.specs.Write.{IsSet};
-ghost use Rattle.vrl_path.specs.declared.path.Step.TheVariants.{Place};
+ghost use Rattle.vrl_path.specs.declared.path.Step.TheVariants.{Field, Place};
 ghost use Rattle.vrl_place.specs.Inner.{spot_sets};
 ghost use Rattle.vrl_place.specs.Sets.{is_alone};
-ghost use Rattle.vrl_place.specs.Write.{IsContainerFor, plain_write, write};
-ghost use Rattle.vrl_value.specs.Look.{field, place};
+ghost use Rattle.vrl_place.specs.Write.{IsContainerFor, IsPut, IsPutFromEnd, IsPutSomewhere, IsWrite};
+ghost use Rattle.vrl_value.specs.Look.{place};
 ghost use Rattle.vrl_value.specs.Tree.{Tree};
 ghost use Rattle.vrl_value.specs.declared.value.Tag.TheVariants as tag;
 
 use crate::fields::other_fields;
-use crate::spot::Spot;
+use crate::from_end::{from_start, some_place};
+use crate::spot::{Spot, exact};
 use std::alloc::Global;
-use vrl_kind::{Kind, equal_tags_are_one_kind, kind_is_canonical};
-use vrl_path::{Path, Step};
+use vrl_kind::{Kind, equal_tags_are_one_kind, join, kind_is_canonical};
+use vrl_path::{Path, Step, sets_go_on};
 use vrl_value::{Chars, Memory, Tag};
 
 /// Makes the kind of a value that of the value once one of `new` is set at the path: the container of the first
 /// step alone, so that another tag of the kind stays nowhere on the way, and a place below that of the path has
-/// null where it could be absent. `Memory`: want of memory, but not at an empty path; the kind stays as it was.
+/// null where it could be absent. A negative place counts from the end of its array: where the kind is that of
+/// arrays of one length alone it is the place that it counts to, and else each place may be what some place was, or
+/// null, or that with `new` written. `Memory`: want of memory, but not at an empty path; the kind stays as it was.
 ///
 /// It goes down the fields of the path in place, as long as the kind is that of an object alone and knows the
 /// field by itself, and looks at none beside them. What stands beside the rest of the path it copies once.
 pub fn write_kind(alloc: Global, kind: &mut Kind, path: &Path, new: Kind) -> Result<(), Memory>
     requires { IsWritable path.now }
-    ensures tags { OnOk result (SameSets (tags_at kind.new)
-        (write (tags_at kind.old) path.now (tags_at new))) }
+    ensures tags { OnOk result (IsWrite (tags_at kind.old) path.now (tags_at new) (tags_at kind.new)) }
     ensures inhabited { OnOk result ((value part set : Tree) → Inhabits value kind.old
         → Inhabits part new → IsSet value path.now part set → Inhabits set kind.new) }
     ensures container { OnOk result (IsContainerFor path.now (tags_at kind.new [])) }
@@ -39,15 +40,14 @@ pub fn write_kind(alloc: Global, kind: &mut Kind, path: &Path, new: Kind) -> Res
     ensures whole { path.now ≡ [] → IsOk result }
     ensures err { OnErr result (kind.new ≡ kind.old) }
 {
+    sets_go_on();
     write_in(alloc, kind, path.as_slice(), new)
 }
 
 // Writes a kind at the end of the steps, in place as far as that goes.
 #[cycle(write_in)]
 fn write_in(alloc: Global, kind: &mut Kind, steps: &[Step], new: Kind) -> Result<(), Memory>
-    requires { IsWritable steps.now }
-    ensures ok { OnOk result (SameSets (tags_at kind.new)
-        (plain_write (tags_at kind.old) (plain steps.now) (tags_at new))) }
+    ensures ok { OnOk result (IsWrite (tags_at kind.old) steps.now (tags_at new) (tags_at kind.new)) }
     ensures whole { steps.now ≡ [] → IsOk result }
     ensures err { OnErr result (kind.new ≡ kind.old) }
 {
@@ -68,9 +68,7 @@ fn write_in(alloc: Global, kind: &mut Kind, steps: &[Step], new: Kind) -> Result
 
 // Makes the kind anew with one written at the end of the steps.
 fn write_anew(alloc: Global, kind: &mut Kind, steps: &[Step], new: &Kind) -> Result<(), Memory>
-    requires { IsWritable steps.now }
-    ensures ok { OnOk result (SameSets (tags_at kind.new)
-        (plain_write (tags_at kind.old) (plain steps.now) (tags_at new.now))) }
+    ensures ok { OnOk result (IsWrite (tags_at kind.old) steps.now (tags_at new.now) (tags_at kind.new)) }
     ensures err { OnErr result (kind.new ≡ kind.old) }
 {
     let written = write_at(alloc, Spot::of(kind), steps, new)?;
@@ -87,10 +85,9 @@ fn write_in_field(
     behind: &[Step],
     new: Kind,
 ) -> Result<(), Memory>
-    requires behind { IsWritable behind.now }
-    requires alone { is_alone (tags_at kind.old []) tag.Object ≡ true }
-    ensures ok { OnOk result (SameSets (tags_at kind.new)
-        (plain_write (tags_at kind.old) (field name.now ∷ plain behind.now) (tags_at new))) }
+    requires { is_alone (tags_at kind.old []) tag.Object ≡ true }
+    ensures ok { OnOk result
+        (IsWrite (tags_at kind.old) (Field name.now ∷ behind.now) (tags_at new) (tags_at kind.new)) }
     ensures err { OnErr result (kind.new ≡ kind.old) }
 {
     if behind.is_empty() {
@@ -112,11 +109,10 @@ fn write_new_field(
     behind: &[Step],
     new: &Kind,
 ) -> Result<(), Memory>
-    requires behind { IsWritable behind.now }
     requires alone { is_alone (tags_at kind.old []) tag.Object ≡ true }
     requires unknown { knows_field name.now kind.old ≡ false }
-    ensures ok { OnOk result (SameSets (tags_at kind.new)
-        (plain_write (tags_at kind.old) (field name.now ∷ plain behind.now) (tags_at new.now))) }
+    ensures ok { OnOk result
+        (IsWrite (tags_at kind.old) (Field name.now ∷ behind.now) (tags_at new.now) (tags_at kind.new)) }
     ensures err { OnErr result (kind.new ≡ kind.old) }
 {
     let part = write_at(alloc, other_fields(kind), behind, new)?;
@@ -134,12 +130,11 @@ fn write_known_field(
     behind: &[Step],
     new: Kind,
 ) -> Result<(), Memory>
-    requires behind { IsWritable behind.now }
     requires known { knows_field name.now kind.old ≡ true }
     requires object { tags_at kind.old [] tag.Object ≡ true }
     ensures ok { OnOk result ((whole : KindTree) → IsTaken name.now whole kind.old part
         → is_alone (tags_at whole []) tag.Object ≡ true
-        → SameSets (tags_at kind.new) (plain_write (tags_at whole) (field name.now ∷ plain behind.now) (tags_at new))) }
+        → IsWrite (tags_at whole) (Field name.now ∷ behind.now) (tags_at new) (tags_at kind.new)) }
     ensures err { OnErr result ((whole : KindTree) → IsCanonical whole → IsTaken name.now whole kind.old part
         → kind.new ≡ whole) }
 {
@@ -154,9 +149,7 @@ fn write_known_field(
 // The kind of what stands here once a value of `new` is set at the end of the steps.
 #[cycle(write)]
 fn write_at(alloc: Global, spot: Spot<'_>, steps: &[Step], new: &Kind) -> Result<Kind, Memory>
-    requires { IsWritable steps.now }
-    ensures { IfOk result (λ kind. SameSets (tags_at kind)
-        (plain_write (spot_sets spot.entry) (plain steps.now) (tags_at new.now))) }
+    ensures { IfOk result (λ kind. IsWrite (spot_sets spot.entry) steps.now (tags_at new.now) (tags_at kind)) }
 {
     match steps.split_first() {
         None => new.copy(alloc),
@@ -172,23 +165,13 @@ fn write_behind(
     behind: &[Step],
     new: &Kind,
 ) -> Result<Kind, Memory>
-    requires step { IsWritableStep step.now }
-    requires behind { IsWritable behind.now }
-    ensures { IfOk result (λ kind. SameSets (tags_at kind)
-        (plain_write (spot_sets spot.entry) (plain_step step.now ∷ plain behind.now) (tags_at new.now))) }
+    ensures { IfOk result
+        (λ kind. IsWrite (spot_sets spot.entry) (step.now ∷ behind.now) (tags_at new.now) (tags_at kind)) }
 {
     match step {
         Step::Field(name) => write_field(alloc, spot, name, behind, new),
-        Step::Place(at) => write_place(alloc, spot, index(*at), behind, new),
+        Step::Place(at) => write_signed_place(alloc, spot, *at, behind, new),
     }
-}
-
-// The index of a place that may be written.
-fn index(place: i64) -> usize
-    requires { IsWritableStep (Place place) }
-    ensures { place ≡ pos result }
-{
-    place.unsigned_abs() as usize
 }
 
 #[cycle(write)]
@@ -199,15 +182,31 @@ fn write_field(
     behind: &[Step],
     new: &Kind,
 ) -> Result<Kind, Memory>
-    requires { IsWritable behind.now }
-    ensures { IfOk result (λ kind. SameSets (tags_at kind)
-        (plain_write (spot_sets spot.entry) (field name.now ∷ plain behind.now) (tags_at new.now))) }
+    ensures { IfOk result
+        (λ kind. IsWrite (spot_sets spot.entry) (Field name.now ∷ behind.now) (tags_at new.now) (tags_at kind)) }
 {
     let absent = !spot.is_alone(Tag::Object);
     let fields = spot.fields();
     let part = write_at(alloc, fields.field(name).or_absent_if(absent), behind, new)?;
     let known = fields.with(alloc, name, part, absent)?;
     Kind::object(alloc, known, fields.behind.rest(alloc)?)
+}
+
+#[cycle(write)]
+fn write_signed_place(
+    alloc: Global,
+    spot: Spot<'_>,
+    at: i64,
+    behind: &[Step],
+    new: &Kind,
+) -> Result<Kind, Memory>
+    ensures { IfOk result
+        (λ kind. IsWrite (spot_sets spot.entry) (Place at ∷ behind.now) (tags_at new.now) (tags_at kind)) }
+{
+    match from_start(at) {
+        Some(at) => write_place(alloc, spot, at, behind, new),
+        None => write_from_end(alloc, spot, at, behind, new),
+    }
 }
 
 #[cycle(write)]
@@ -218,13 +217,49 @@ fn write_place(
     behind: &[Step],
     new: &Kind,
 ) -> Result<Kind, Memory>
-    requires { IsWritable behind.now }
-    ensures { IfOk result (λ kind. SameSets (tags_at kind)
-        (plain_write (spot_sets spot.entry) (place at ∷ plain behind.now) (tags_at new.now))) }
+    ensures { IfOk result (λ kind. IsPut (spot_sets spot.entry) (place at)
+        (λ part written. IsWrite part behind.now (tags_at new.now) written) (tags_at kind)) }
 {
     let absent = !spot.is_alone(Tag::List);
     let places = spot.places();
     let part = write_at(alloc, places.place(at).or_absent_if(absent), behind, new)?;
     let known = places.with(alloc, at, part, absent, true)?;
     Kind::list(alloc, known, places.behind.rest(alloc)?)
+}
+
+#[cycle(write)]
+fn write_from_end(
+    alloc: Global,
+    spot: Spot<'_>,
+    at: i64,
+    behind: &[Step],
+    new: &Kind,
+) -> Result<Kind, Memory>
+    ensures { IfOk result (λ kind. IsPutFromEnd (spot_sets spot.entry) at
+        (λ part written. IsWrite part behind.now (tags_at new.now) written) (tags_at kind)) }
+{
+    match spot.sure_place(at) {
+        Some(at) => write_place(alloc, spot, at, behind, new),
+        None => write_somewhere(alloc, spot, behind, new),
+    }
+}
+
+// Writes at a place that isn't known.
+#[cycle(write)]
+fn write_somewhere(
+    alloc: Global,
+    spot: Spot<'_>,
+    behind: &[Step],
+    new: &Kind,
+) -> Result<Kind, Memory>
+    ensures { IfOk result (λ kind. IsPutSomewhere (spot_sets spot.entry)
+        (λ part written. IsWrite part behind.now (tags_at new.now) written) (tags_at kind)) }
+{
+    let places = some_place(alloc, spot)?;
+    let null = Kind::of(alloc, Tag::Null);
+    let old = join(alloc, &places, &null)?;
+    let written = write_at(alloc, Spot::of(&old), behind, new)?;
+    let each = join(alloc, &old, &written)?;
+    let rest = exact(alloc, each)?;
+    Kind::list(alloc, Vec::new(alloc), rest)
 }

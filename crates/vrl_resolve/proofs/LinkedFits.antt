@@ -10,18 +10,17 @@ use Rattle.std.specs.declared.result.Result.{Result}
 use Rattle.std.specs.declared.result.Result.TheVariants.{Ok, Err}
 use Rattle.vrl_value.specs.Tree.{Tree}
 use Rattle.vrl_value.specs.declared.value.Tag.{Tag}
-use Rattle.vrl_path.specs.Steps.{IsPlain, IsPlainStep, IsWritable, IsWritableStep}
+use Rattle.vrl_path.specs.Steps.{IsWritable, IsWritableStep}
 use Rattle.vrl_path.specs.declared.path.Step.{Step}
 use Rattle.vrl_path.specs.declared.path.Step.TheVariants.{Field, Place as Index}
 use Rattle.vrl_diag.specs.declared.diagnostic.Diagnostic.{Diagnostic}
 use Rattle.vrl_diag.specs.declared.diagnostic.Span.{Span}
 use Rattle.vrl_syntax.specs.Calls.{form_named, has_shape, is_closure_form, is_del, is_exists, literal_of}
-use Rattle.vrl_syntax.specs.Limits.{args_faults, arms_faults, else_faults, expr_faults, exprs_faults, fault_at, faults_at, form_faults, is_negative, is_too_large, pairs_faults, path_faults, target_faults}
+use Rattle.vrl_syntax.specs.Limits.{args_faults, arms_faults, else_faults, expr_faults, exprs_faults, fault_at, faults_at, form_faults, is_out_of_range, path_faults, pairs_faults, target_faults}
 use Rattle.vrl_syntax.specs.Regexes.{args_regexes_below, arms_regexes_below, else_regexes_below, expr_regexes_below, exprs_regexes_below, form_regexes_below, pairs_regexes_below}
-use Rattle.vrl_syntax.specs.Tree.{Expr, expr, Form, Exprs, Pairs, Arms, Else, Args, no_args, arg, Closure, no_closure, closure, literal}
+use Rattle.vrl_syntax.specs.Tree.{Expr, expr, Form, Exprs, Pairs, Arms, Else, Args, Closure, no_closure, closure, literal}
 use Rattle.vrl_syntax.specs.Tree as tree
 use Rattle.vrl_syntax.specs.declared.call_form.CallForm.{CallForm}
-use Rattle.vrl_syntax.specs.declared.root.Root.{Root}
 use Rattle.vrl_syntax.specs.declared.root.Target.{Target}
 use Rattle.vrl_syntax.specs.declared.root.Target.TheVariants as target
 use Rattle.vrl_builtin.specs.Rows.{ParameterRow}
@@ -66,11 +65,10 @@ no_fault : (fault : Option Diagnostic) → option_to_list fault ≡ [] → fault
 no_fault None none = refl
 no_fault (Some d) none = absurd cc
 
-keeps_limits : (negative long large : Bool) (d e : Diagnostic) → (if negative then Some d else (if long || large then Some e else None)) ≡ None → (negative ≡ false) × (large ≡ false)
-keeps_limits true long large d e none = absurd cc
-keeps_limits false true large d e none = absurd cc
-keeps_limits false false true d e none = absurd cc
-keeps_limits false false false d e none = (refl, refl)
+keeps_limits : (long out : Bool) (d : Diagnostic) → (if long || out then Some d else None) ≡ None → out ≡ false
+keeps_limits true out d none = absurd cc
+keeps_limits false true d none = absurd cc
+keeps_limits false false d none = refl
 
 first_false : (a b : Bool) → (a || b) ≡ false → a ≡ false
 first_false false b is = refl
@@ -80,65 +78,31 @@ second_false : (a b : Bool) → (a || b) ≡ false → b ≡ false
 second_false false b is = is
 second_false true b is = absurd (true≢false is)
 
-plain_step : (s : Step) → is_negative s ≡ false → IsPlainStep s
-plain_step (Field name) plain = tt
-plain_step (Index (pos i)) plain = tt
-plain_step (Index (negsuc i)) plain = absurd (true≢false plain)
+writable_step : (s : Step) → is_out_of_range s ≡ false → IsWritableStep s
+writable_step (Field name) within = tt
+writable_step (Index (pos i)) within = ltb-false 65535 i within
+writable_step (Index (negsuc i)) within = ltb-false 65536 (suc i) within
 
-plain_path : (path : List Step) → list_any is_negative path ≡ false → IsPlain path
-plain_path [] plain = All-nil IsPlainStep
-plain_path (s ∷ path) plain = All-cons IsPlainStep s path (plain_step s (first_false (is_negative s) _ plain)) (plain_path path (second_false (is_negative s) _ plain))
+writable_path : (path : List Step) → list_any is_out_of_range path ≡ false → IsWritable path
+writable_path [] within = All-nil IsWritableStep
+writable_path (s ∷ path) within =
+    All-cons IsWritableStep s path (writable_step s (first_false (is_out_of_range s) _ within)) (writable_path path (second_false (is_out_of_range s) _ within))
 
-writable_step : (s : Step) → is_negative s ≡ false → is_too_large s ≡ false → IsWritableStep s
-writable_step (Field name) plain small = tt
-writable_step (Index (pos i)) plain small = ltb-false 65535 i small
-writable_step (Index (negsuc i)) plain small = absurd (true≢false plain)
-
-writable_path : (path : List Step) → list_any is_negative path ≡ false → list_any is_too_large path ≡ false → IsWritable path
-writable_path [] plain small = All-nil IsWritableStep
-writable_path (s ∷ path) plain small =
-    All-cons IsWritableStep s path (writable_step s (first_false (is_negative s) _ plain) (first_false (is_too_large s) _ small))
-    (writable_path path (second_false (is_negative s) _ plain) (second_false (is_too_large s) _ small))
-
-limits_kept : (span : Span) (path : List Step) → faults_at span path ≡ [] → (list_any is_negative path ≡ false) × (list_any is_too_large path ≡ false)
-limits_kept span path none = keeps_limits (list_any is_negative path) (nat_lt 128 (length path)) (list_any is_too_large path) _ _ (no_fault (fault_at span path) none)
+limits_kept : (span : Span) (path : List Step) → faults_at span path ≡ [] → list_any is_out_of_range path ≡ false
+limits_kept span path none = keeps_limits (nat_lt 128 (length path)) (list_any is_out_of_range path) _ (no_fault (fault_at span path) none)
 
 target_fits : (names : Names) (t : Target) (place : Option TargetPath) → IsTargetOf names t place → target_faults t ≡ [] → IsTarget (length names) place
 target_fits names target.Nowhere None is none = tt
 target_fits names target.Nowhere (Some place) is none = absurd is
 target_fits names (target.Place span root path) None is none = absurd is
 target_fits names (target.Place span root path) (Some place) is none =
-    let kept = limits_kept span path none in
-    (is.begins.known, subst IsWritable (sym is.steps) (writable_path path kept.0 kept.1))
+    (is.begins.known, subst IsWritable (sym is.steps) (writable_path path (limits_kept span path none)))
 
 -- ---- which way a call was looked up
-
-abbrev is_deletion : called.Callee → Bool
-is_deletion (called.deletion root path) = true
-is_deletion c = false
 
 abbrev is_function : called.Callee → Bool
 is_function (called.function f places) = true
 is_function c = false
-
-written_no_deletion : (f : Fun) (places : List (Option ℕ)) (b : Bool) → is_deletion (if b then called.function f places else called.nothing_called) ≡ false
-written_no_deletion f places true = refl
-written_no_deletion f places false = refl
-
-bound_no_deletion : (f : Fun) (gs : Args) (b : Result (List (Option ℕ)) BindFault) → is_deletion (called.bound_function f gs b) ≡ false
-bound_no_deletion f gs (Err fault) = refl
-bound_no_deletion f gs (Ok places) = written_no_deletion f places (are_written_right (row_of f).accepts 0 (row_of f).parameters (map (written_at (values_of gs)) places))
-
-named_no_deletion : (f : Option Fun) (gs : Args) → is_deletion (called.named_function f gs) ≡ false
-named_no_deletion None gs = refl
-named_no_deletion (Some f) gs = bound_no_deletion f gs (binding (row_of f).parameters (keywords_of gs))
-
-existence_no_deletion : (es : List Expr) → is_deletion (called.path_callee called.existence es) ≡ false
-existence_no_deletion [] = refl
-existence_no_deletion (expr span (tree.read root path) ∷ []) = refl
-existence_no_deletion (expr span f ∷ []) = refl
-existence_no_deletion (expr span (tree.read root path) ∷ e ∷ es) = refl
-existence_no_deletion (expr span f ∷ e ∷ es) = refl
 
 path_no_function : (es : List Expr) → (is_function (called.path_callee called.deletion es) ≡ false) × (is_function (called.path_callee called.existence es) ≡ false)
 path_no_function [] = (refl, refl)
@@ -147,34 +111,14 @@ path_no_function (expr span f ∷ []) = (refl, refl)
 path_no_function (expr span (tree.read root path) ∷ e ∷ es) = (refl, refl)
 path_no_function (expr span f ∷ e ∷ es) = (refl, refl)
 
--- ---- `del`
-
-deletion_is : (dels exists : Bool) (b : Result (List (Option ℕ)) BindFault) (gs : Args) (f : Option Fun) (root : Root) (path : List Step)
-    → called.deletion root path ≡ (if dels then called.bound_path called.deletion gs b else (if exists then called.bound_path called.existence gs b else called.named_function f gs))
-    → (dels ≡ true) × (called.deletion root path ≡ called.path_callee called.deletion (values_of gs))
-deletion_is true exists (Ok places) gs f root path is = (refl, is)
-deletion_is true exists (Err fault) gs f root path is = absurd (true≢false (ap is_deletion is))
-deletion_is false true (Ok places) gs f root path is = absurd (true≢false (ap is_deletion is ∙ existence_no_deletion (values_of gs)))
-deletion_is false true (Err fault) gs f root path is = absurd (true≢false (ap is_deletion is))
-deletion_is false false b gs f root path is = absurd (true≢false (ap is_deletion is ∙ named_no_deletion f gs))
-
-deleted_plain : (gs : Args) (root : Root) (path : List Step) → called.deletion root path ≡ called.path_callee called.deletion (values_of gs) → args_faults true gs ≡ [] → IsPlain path
-deleted_plain no_args root path is none = absurd (true≢false (ap is_deletion is))
-deleted_plain (arg name at (expr span (tree.read r p)) no_args) root path is none =
-    let same : path ≡ p = cc in
-    subst IsPlain (sym same) (plain_path p (limits_kept span p (no_front (faults_at span p) _ none)).0)
-deleted_plain (arg name at (expr span f) no_args) root path is none = absurd (true≢false (ap is_deletion is))
-deleted_plain (arg name at (expr span (tree.read r p)) (arg n u e gs)) root path is none = absurd (true≢false (ap is_deletion is))
-deleted_plain (arg name at (expr span f) (arg n u e gs)) root path is none = absurd (true≢false (ap is_deletion is))
-
--- what runs a closure is neither
-closure_is_neither : (f : Option CallForm) (xs : List (List ℕ)) (gs : Args) → (is_deletion (called.closure_callee f xs gs) ≡ false) × (is_function (called.closure_callee f xs gs) ≡ false)
-closure_is_neither None xs gs = (refl, refl)
-closure_is_neither (Some f) xs gs = chosen (is_closure_form (Some f) && has_shape f xs) (binding (collection_parameters f) (keywords_of gs)) where
-  chosen : (b : Bool) (bound : Result (List (Option ℕ)) BindFault) → (is_deletion (if b then called.bound_iteration f bound else called.nothing_called) ≡ false) × (is_function (if b then called.bound_iteration f bound else called.nothing_called) ≡ false)
-  chosen false bound = (refl, refl)
-  chosen true (Ok places) = (refl, refl)
-  chosen true (Err fault) = (refl, refl)
+-- what runs a closure is no function
+closure_no_function : (f : Option CallForm) (xs : List (List ℕ)) (gs : Args) → is_function (called.closure_callee f xs gs) ≡ false
+closure_no_function None xs gs = refl
+closure_no_function (Some f) xs gs = chosen (is_closure_form (Some f) && has_shape f xs) (binding (collection_parameters f) (keywords_of gs)) where
+  chosen : (b : Bool) (bound : Result (List (Option ℕ)) BindFault) → is_function (if b then called.bound_iteration f bound else called.nothing_called) ≡ false
+  chosen false bound = refl
+  chosen true (Ok places) = refl
+  chosen true (Err fault) = refl
 
 -- ---- functions
 
@@ -245,15 +189,12 @@ given_parts {gs = gs} i (p ∷ ps) accepts (place ∷ places) linked placed righ
 
 -- ---- calls
 
-callee_fits : {names : Names} {tags : List Tag} {gs : Args} {ns : Parts} (name : List ℕ) (c : Closure) (d : Callee) → IsCalleeOf names name gs c d → AreArgsLinked names tags gs ns → args_faults (is_del name) gs ≡ [] → IsCallee (length names) ns d
-callee_fits name c callee.Nothing is linked none = tt
-callee_fits name c (callee.Existence place) is linked none = is.known
-callee_fits {gs = gs} name (closure xs es span) (callee.Deletion place) is linked none = absurd (true≢false (ap is_deletion is.same ∙ (closure_is_neither (form_named name) xs gs).0))
-callee_fits {gs = gs} name no_closure (callee.Deletion place) is linked none =
-    let deleted = deletion_is (is_del name) (is_exists name) (binding path_parameters (keywords_of gs)) gs (function_named name) _ _ is.same in
-    (is.known, deleted_plain gs _ place.path deleted.1 (ap (λ b. args_faults b gs) (sym deleted.0) ∙ none))
-callee_fits {gs = gs} name (closure xs es span) (callee.Function f places) is linked none = absurd (true≢false (ap is_function is.same ∙ (closure_is_neither (form_named name) xs gs).1))
-callee_fits {gs = gs} name no_closure (callee.Function f places) is linked none =
+callee_fits : {names : Names} {tags : List Tag} {gs : Args} {ns : Parts} (name : List ℕ) (c : Closure) (d : Callee) → IsCalleeOf names name gs c d → AreArgsLinked names tags gs ns → IsCallee (length names) ns d
+callee_fits name c callee.Nothing is linked = tt
+callee_fits name c (callee.Existence place) is linked = is.known
+callee_fits name c (callee.Deletion place) is linked = is.known
+callee_fits {gs = gs} name (closure xs es span) (callee.Function f places) is linked = absurd (true≢false (ap is_function is.same ∙ closure_no_function (form_named name) xs gs))
+callee_fits {gs = gs} name no_closure (callee.Function f places) is linked =
     let bound = function_is (is_del name) (is_exists name) (binding path_parameters (keywords_of gs)) gs (function_named name) f places.items is.same in
     given_parts 0 (row_of f).parameters (row_of f).accepts places.items linked (places_are (row_of f).parameters (keywords_of gs) places.items bound.0) bound.1
 
@@ -299,7 +240,7 @@ mutual
       )
   form_fits sources (a_call {name = name} {gs = gs} {c = c} {d = d} is args) none below =
       let written = no_front (args_faults (is_del name) gs) _ none in
-      (callee_fits name c d is args written, args_fit sources (is_del name) args written (left_holds (args_regexes_below sources gs) _ below))
+      (callee_fits name c d is args, args_fit sources (is_del name) args written (left_holds (args_regexes_below sources gs) _ below))
   form_fits {names = names} sources (an_iteration {name = name} {gs = gs} {xs = xs} {f = f} is slots args items) none below =
       let written = no_front (args_faults (is_del name) gs) _ none in (
         slots_fit names xs (slots_in f) slots,

@@ -1,17 +1,17 @@
 -- Well-formed values stay so: what is read of them, what is written or removed in them, and what operators make of them.
-use Rattle.std.specs.Prelude.{◌≡◌, ℕ, ℤ, Bool, true, List, [], ◌∷◌, ◌++◌, Option, Some, None, IfSome, IsTrue, unwrap_or, refl}
+use Rattle.std.specs.Prelude.{◌≡◌, ℕ, zero, suc, ◌-◌, ℤ, unsigned_abs, Bool, true, false, if◌then◌else◌, is_some, List, [], ◌∷◌, ◌++◌, Option, Some, None, IfSome, IsTrue, unwrap_or, refl}
 use Rattle.std.proofs.lemmas.Bool.{and_from}
 use Rattle.vrl_value.specs.Laws.{RegexesStayBelow, TreesStayInOrder}
 use Rattle.vrl_value.specs.Look.{Step, field, place, Found, there, missing, no_place, item_at, found_behind, found_if, part_at, IfThere}
+use Rattle.vrl_value.specs.Parts.{count_of}
 use Rattle.vrl_value.specs.Regexes.{regexes_below, items_regexes_below}
 use Rattle.vrl_value.specs.Tree.{Tree, string, integer, boolean, null, timestamp, array, object, Items, no_items, Members, no_members, find, put, IsOrdered, ItemsAreOrdered}
 use Rattle.vrl_value.specs.View.{items_of_trees}
 use Rattle.vrl_kind.specs.Laws.{AnyHoldsAll}
-use Rattle.vrl_path.specs.Parts.{replace_part, with_part, without_part}
+use Rattle.vrl_path.specs.FromEnd.{behind_nulls, front_padded, part_behind, step_in}
+use Rattle.vrl_path.specs.Parts.{items_in, members_in, placed, replace_part, tree_or_null, with_part, without_part}
 use Rattle.vrl_path.specs.Read.{item_if, place_of, read_at, signed_part_at, signed_raw_at, tree_found}
-use Rattle.vrl_path.specs.Steps.{plain, plain_step}
-use Rattle.vrl_path.specs.Trees.{chain, if_there, remove_tree, set_tree}
-use Rattle.vrl_path.specs.Write.{items_in, members_in}
+use Rattle.vrl_path.specs.Trees.{if_there, remove_tree, set_tree}
 use Rattle.vrl_path.specs.declared.path.Step.{Step as CodeStep}
 use Rattle.vrl_path.specs.declared.path.Step.TheVariants as step
 use Rattle.vrl_table.specs.Table.{FunctionsKeepLaw}
@@ -63,13 +63,13 @@ found_item laws count i ts is = found count (item_at i ts) (laws.order.ordered_i
 pub found_member : (laws : Laws) (count : ℕ) (k : List ℕ) (ms : Members) → IsWellFormed count (object ms) → IfSome (find k ms) (IsWellFormed count)
 found_member laws count k ms is = found count (find k ms) (laws.order.ordered_find k ms is.ordered) (laws.below.below_find count k ms is.below)
 
-placed : (laws : Laws) (count : ℕ) (i : Option ℕ) (ts : Items) → IsWellFormed count (array ts) → IfThere (item_if i ts) (IsWellFormed count)
-placed laws count None ts is = tt
-placed laws count (Some i) ts is = found_there count (item_at i ts) (found_item laws count i ts is)
+item_found : (laws : Laws) (count : ℕ) (i : Option ℕ) (ts : Items) → IsWellFormed count (array ts) → IfThere (item_if i ts) (IsWellFormed count)
+item_found laws count None ts is = tt
+item_found laws count (Some i) ts is = found_there count (item_at i ts) (found_item laws count i ts is)
 
 read_part : (laws : Laws) (count : ℕ) (v : Tree) (s : CodeStep) → IsWellFormed count v → IfThere (signed_part_at v s) (IsWellFormed count)
 read_part laws count (object ms) (step.Field k) is = found_there count (find k ms) (found_member laws count k ms is)
-read_part laws count (array ts) (step.Place i) is = placed laws count (place_of _ i) ts is
+read_part laws count (array ts) (step.Place i) is = item_found laws count (place_of _ i) ts is
 read_part laws count v s is = tt
 
 read_behind : (count : ℕ) (f : Found) (path : List CodeStep) → IfThere f (IsWellFormed count) →
@@ -145,9 +145,35 @@ without_is laws count (place i) (array ts) is = record {
 }
 without_is laws count s v is = is
 
-chain_is : (laws : Laws) (count : ℕ) (path : List Step) (v : Tree) → IsWellFormed count v → IsWellFormed count (chain path v)
-chain_is laws count [] v is = is
-chain_is laws count (s ∷ path) v is = with_is laws count s (chain path v) null (chain_is laws count path v is) (null_is count)
+placed_is : (laws : Laws) (count : ℕ) (f : Found) (s : Step) (part v : Tree) → IsWellFormed count part → IsWellFormed count v → IsWellFormed count (placed f s part v)
+placed_is laws count (there u) s part v new is = replaced_is laws count s part v new is
+placed_is laws count missing s part v new is = with_is laws count s part v new is
+placed_is laws count no_place s part v new is = with_is laws count s part v new is
+
+nulls_ordered : (k : ℕ) (ts : Items) → ItemsAreOrdered ts → ItemsAreOrdered (behind_nulls k ts)
+nulls_ordered zero ts are = are
+nulls_ordered (suc k) ts are = (tt, nulls_ordered k ts are)
+
+nulls_below : (count k : ℕ) (ts : Items) → items_regexes_below count ts ≡ true → items_regexes_below count (behind_nulls k ts) ≡ true
+nulls_below count zero ts are = are
+nulls_below count (suc k) ts are = nulls_below count k ts are
+
+padded_if : (count : ℕ) (b : Bool) (k : ℕ) (v : Tree) → IsWellFormed count v → IsWellFormed count (if b then v else array (behind_nulls k (items_in (there v))))
+padded_if count true k v is = is
+padded_if count false k v is = let whole = items_are count v is in record {
+  ordered = nulls_ordered k (items_in (there v)) whole.ordered;
+  below = nulls_below count k (items_in (there v)) whole.below;
+}
+
+padded_is : (count : ℕ) (v : Tree) (s : CodeStep) → IsWellFormed count v → IsWellFormed count (front_padded v s)
+padded_is count v (step.Field k) is = is
+padded_is count v (step.Place i) is =
+    let many = count_of (items_in (there v)) in padded_if count (is_some (place_of many i)) (unsigned_abs i - many) v is
+
+found_or_null : (count : ℕ) (f : Found) → IfThere f (IsWellFormed count) → IsWellFormed count (tree_or_null f)
+found_or_null count (there v) is = is
+found_or_null count missing is = null_is count
+found_or_null count no_place is = null_is count
 
 there_is : (count : ℕ) (f : Found) (next : Tree → Tree) (other : Tree) → IfThere f (IsWellFormed count) → ((v : Tree) → IsWellFormed count v → IsWellFormed count (next v)) → IsWellFormed count other →
     IsWellFormed count (if_there f next other)
@@ -158,18 +184,22 @@ there_is count no_place next other is then_is else_is = else_is
 pub set_is : (laws : Laws) (count : ℕ) (path : List CodeStep) (v new : Tree) → IsWellFormed count v → IsWellFormed count new → IsWellFormed count (set_tree v path new)
 set_is laws count [] v new is part = part
 set_is laws count (s ∷ path) v new is part =
-    there_is count (part_at v (plain_step s)) (λ u. replace_part (plain_step s) (set_tree u path new) v) (with_part (plain_step s) (chain (plain path) new) v)
-    (part_is laws count v (plain_step s) is)
-    (λ u inner. replaced_is laws count (plain_step s) (set_tree u path new) v (set_is laws count path u new inner part) is)
-    (with_is laws count (plain_step s) (chain (plain path) new) v (chain_is laws count (plain path) new part) is)
+    let u = front_padded v s in
+    let whole = padded_is count v s is in
+    let inner = found_or_null count (part_at u (step_in v s)) (part_is laws count u (step_in v s) whole) in
+    placed_is laws count (part_at u (step_in v s)) (step_in v s) (set_tree (part_behind v s) path new) u (set_is laws count path (part_behind v s) new inner part) whole
 
 pub remove_is : (laws : Laws) (count : ℕ) (path : List CodeStep) (v : Tree) → IsWellFormed count v → IsWellFormed count (remove_tree v path)
 remove_is laws count [] v is = is
-remove_is laws count (s ∷ []) v is = without_is laws count (plain_step s) v is
+remove_is laws count (s ∷ []) v is =
+    there_is count (signed_part_at v s) (λ u. without_part (step_in v s) v) v
+    (read_part laws count v s is)
+    (λ u inner. without_is laws count (step_in v s) v is)
+    is
 remove_is laws count (s ∷ r ∷ path) v is =
-    there_is count (part_at v (plain_step s)) (λ u. replace_part (plain_step s) (remove_tree u (r ∷ path)) v) v
-    (part_is laws count v (plain_step s) is)
-    (λ u inner. replaced_is laws count (plain_step s) (remove_tree u (r ∷ path)) v (remove_is laws count (r ∷ path) u inner) is)
+    there_is count (signed_part_at v s) (λ u. replace_part (step_in v s) (remove_tree u (r ∷ path)) v) v
+    (read_part laws count v s is)
+    (λ u inner. replaced_is laws count (step_in v s) (remove_tree u (r ∷ path)) v (remove_is laws count (r ∷ path) u inner) is)
     is
 
 -- ---- arrays of values

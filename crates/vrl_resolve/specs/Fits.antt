@@ -1,7 +1,7 @@
 -- What is asked of a linked expression that is run with so many variables and regexes.
 use Rattle.std.specs.Prelude.{ℕ, zero, suc, ◌<◌, Bool, true, false, List, [], ◌∷◌, Option, Some, None, IsSome, IsTrue, ⊤}
 use Rattle.vrl_value.specs.Tree.{Tree}
-use Rattle.vrl_path.specs.Steps.{IsPlain, IsWritable}
+use Rattle.vrl_path.specs.Steps.{IsWritable}
 use Rattle.vrl_builtin.specs.Conditions.{IsThere}
 use Rattle.vrl_builtin.specs.Rows.{ParameterRow}
 use Rattle.vrl_table.specs.Table.{row_of}
@@ -45,7 +45,7 @@ AreGiven i (p ∷ ps) accepts ns (place ∷ places) = IsGiven p (accepts i) ns p
 
 abbrev pub IsCallee : ℕ → Parts → Callee → Type 0
 IsCallee count ns (callee.Function f places) = AreGiven 0 (row_of f).parameters (row_of f).accepts ns places.items
-IsCallee count ns (callee.Deletion place) = IsKnown count place.base × IsPlain place.path
+IsCallee count ns (callee.Deletion place) = IsKnown count place.base
 IsCallee count ns (callee.Existence place) = IsKnown count place.base
 IsCallee count ns callee.Nothing = ⊤
 

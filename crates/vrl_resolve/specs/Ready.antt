@@ -5,7 +5,7 @@ use Rattle.std.specs.Prelude.{ℕ, Bool, true, false, List, [], ◌∷◌, lengt
 use Rattle.std.specs.Coded.{coded_bool, coded_list, coded_option, coded_ℕ, le_prop, ×_prop, Coded-set, Unit-prop}
 use Rattle.std.specs.Ordering.{Ordering-set}
 use Rattle.vrl_value.specs.Tree.{Tree, string, integer, boolean, null, timestamp, regex, array as items, object as fields, Items, no_items, item, Members, no_members, member, IsBefore, IsOrdered, ItemsAreOrdered, MembersAreOrdered}
-use Rattle.vrl_path.specs.Steps.{IsPlainStep, IsWritableStep}
+use Rattle.vrl_path.specs.Steps.{IsWritableStep}
 use Rattle.vrl_path.specs.declared.path.Step.{Step}
 use Rattle.vrl_path.specs.declared.path.Step.TheVariants.{Field, Place as Index}
 use Rattle.vrl_builtin.specs.Conditions.{IsThere}
@@ -72,15 +72,10 @@ formed-prop sources v x y =
 all-prop : {P : Step → Type 0} → ((s : Step) → IsProp (P s)) → (path : List Step) → IsProp (All P path)
 all-prop one path x y = λ i k d below. one _ (x k d below) (y k d below) i
 
-plain-prop : (s : Step) → IsProp (IsPlainStep s)
-plain-prop (Field name) = Unit-prop
-plain-prop (Index (pos i)) = Unit-prop
-plain-prop (Index (negsuc i)) = none-prop
-
 writable-prop : (s : Step) → IsProp (IsWritableStep s)
 writable-prop (Field name) = Unit-prop
 writable-prop (Index (pos i)) = le_prop
-writable-prop (Index (negsuc i)) = none-prop
+writable-prop (Index (negsuc i)) = le_prop
 
 known-prop : (count : ℕ) (b : Base) → IsProp (IsKnown count b)
 known-prop count base.Event = Unit-prop
@@ -118,7 +113,7 @@ all_given-prop i (p ∷ ps) accepts ns (place ∷ places) =
 callee-prop : (count : ℕ) (ns : Parts) (c : Callee) → IsProp (IsCallee count ns c)
 callee-prop count ns (callee.Function f places) =
     all_given-prop 0 (row_of f).parameters (row_of f).accepts ns places.items
-callee-prop count ns (callee.Deletion place) = ×_prop (known-prop count place.base) (all-prop plain-prop place.path)
+callee-prop count ns (callee.Deletion place) = known-prop count place.base
 callee-prop count ns (callee.Existence place) = known-prop count place.base
 callee-prop count ns callee.Nothing = Unit-prop
 

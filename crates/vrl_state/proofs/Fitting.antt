@@ -1,9 +1,10 @@
 -- That stores go on fitting what is known of them.
-use Rattle.std.proofs.Common.{◌≡◌, ◌⊎◌, inl, inr, ℕ, bytes_eq, Bool, true, false, ◌||◌, List, [], ◌∷◌, Option, Some, None, IfSome, IsTrue, is_some, MatchOption, ◌≢◌, unwrap_or, refl, sym, ap, ◌∙◌, subst}
+use Rattle.std.proofs.Common.{◌≡◌, ◌⊎◌, inl, inr, ℕ, bytes_eq, Bool, true, false, ◌||◌, List, [], ◌∷◌, Option, Some, None, IfSome, IsTrue, is_some, MatchOption, unwrap_or, refl, sym, ap, ◌∙◌, subst}
 use Rattle.std.proofs.lemmas.Bool.{true≢false}
 use Rattle.std.specs.FinMap as map
 use Rattle.std.specs.FinSet as set
 use Rattle.std.specs.List.{list_any}
+use Rattle.std.specs.Option.{IsSome}
 use Rattle.vrl_value.specs.Look.{raw_at, tag_found}
 use Rattle.vrl_value.specs.Tree.{Tree, null}
 use Rattle.vrl_value.specs.declared.value.Tag.{Tag}
@@ -17,11 +18,9 @@ use Rattle.vrl_kind.specs.Kinds.{tags_at, Inhabits}
 use Rattle.vrl_kind.specs.Laws.{AnyHoldsAll, CutsAreWider, WiderKindsHoldMore}
 use Rattle.vrl_kind.specs.Tags.{Tags}
 use Rattle.vrl_place.specs.Laws.{NothingRemovedIsOfTheKind, RemovalsAreOfTheirKind, WritesAreOfTheirKind}
-use Rattle.vrl_place.specs.Remove.{remove}
-use Rattle.vrl_place.specs.Write.{write}
 use Rattle.vrl_state.specs.Known.{listed_kind, IsCutIf}
 use Rattle.vrl_state.specs.Laws.{BlocksKeepFits, BlocksKeepHeldNames, CutsHoldTheAllowed, EitherHoldsBoth, JoinsKeepFits, JoinsKeepHeldNames, RemovalsKeepFits, ReplacingKeepsFits, StartsFit, WithinKeepsFits, WritesKeepFits}
-use Rattle.vrl_state.specs.States.{either, kept, kind_of, with_kind, written_from, HasNow, IsCutOf, IsEitherMap, IsEitherVariable, IsVariableWithin, RootMap, Scope}
+use Rattle.vrl_state.specs.States.{either, kept, kind_of, with_kind, written_from, HasNow, IsEitherMap, IsEitherVariable, IsLeftKind, IsVariableWithin, IsWrittenKind, RootMap, Scope}
 use Rattle.vrl_path.specs.Remove.{removable_at, IsRemoved}
 use Rattle.vrl_path.specs.Write.{IsSet}
 use Rattle.vrl_state.specs.Stores.{store_back, value_of, with_value, FitsKind, FitsKnown, FitsMap, HidesOf, HoldsNames, IsStoreTakenOut, IsWithout, Store}
@@ -141,10 +140,10 @@ fits_unknown (Name x) store roots v none fits =
 
 -- the value of a root, known or not, with another set in it
 set_holds : AnyHoldsAll → CutsAreWider → WiderKindsHoldMore → WritesAreOfTheirKind → (v : Option Tree) (K : Option KindTree) (p : List Step) (N M : KindTree) (n w : Tree)
-    → IsCutOf (write (tags_at (written_from K)) p (tags_at N)) M → FitsKind v K → Inhabits n N → IsSet (unwrap_or v null) p n w → Inhabits w M
-set_holds any wider more writes v None p N M n w c h new set = cut_holds wider more w c.whole M c.cut (writes (unwrap_or v null) n w p any_kind N c.whole c.tags (any (unwrap_or v null)) new set)
+    → IsWrittenKind (written_from K) p N M → FitsKind v K → Inhabits n N → IsSet (unwrap_or v null) p n w → Inhabits w M
+set_holds any wider more writes v None p N M n w c h new set = cut_holds wider more w c.whole M c.cut (writes (unwrap_or v null) n w p any_kind N c.whole c.write (any (unwrap_or v null)) new set)
 set_holds any wider more writes None (Some K) p N M n w c h new set = absurd h
-set_holds any wider more writes (Some v) (Some K) p N M n w c h new set = cut_holds wider more w c.whole M c.cut (writes v n w p K N c.whole c.tags h new set)
+set_holds any wider more writes (Some v) (Some K) p N M n w c h new set = cut_holds wider more w c.whole M c.cut (writes v n w p K N c.whole c.write h new set)
 
 pub writes_fit : AnyHoldsAll → CutsAreWider → WiderKindsHoldMore → WritesAreOfTheirKind → WritesKeepFits
 writes_fit any wider more writes root p N value None known' before after is fits new written = absurd fits
@@ -153,16 +152,16 @@ writes_fit any wider more writes root p N value (Some roots) known' before after
     subst (FitsKnown after) (sym is.2) (subst (λ s. FitsMap s (with_kind root is.0 roots)) (sym written.store) (fits_with root before roots written.value is.0 fits here))
 
 -- what holds of a value without a part
-without_inhabits : (v w : Tree) (p : List Step) (K M : KindTree) → ((u : Tree) → Inhabits u K → removable_at u p ≡ None → Inhabits u M) → ((u t : Tree) → Inhabits u K → p ≢ [] → IsRemoved u p t → Inhabits t M)
+without_inhabits : (v w : Tree) (p : List Step) (K M : KindTree) → ((u : Tree) → Inhabits u K → removable_at u p ≡ None → Inhabits u M) → ((u t : Tree) → Inhabits u K → IsSome (removable_at u p) → IsRemoved u p t → Inhabits t M)
     → Inhabits v K → IsWithout v p w → Inhabits w M
 without_inhabits v w [] K M same less h is = subst (λ t. Inhabits t M) (sym is) (same v h refl)
 without_inhabits v w (s ∷ r) K M same less h is = by_found (removable_at v (s ∷ r)) refl is where
   by_found : (o : Option Tree) → removable_at v (s ∷ r) ≡ o → MatchOption o (w ≡ v) (λ t. IsRemoved v (s ∷ r) w) → Inhabits w M
   by_found None none is = subst (λ t. Inhabits t M) (sym is) (same v h none)
-  by_found (Some t) some is = less v w h (λ e. cc) is
+  by_found (Some t) some is = less v w h (subst IsSome (sym some) refl) is
 
 fits_taken_out : (root : Root) (p : List Step) (before after : Store) (roots : RootMap) (K M : KindTree) → kind_of root roots ≡ Some K
-    → ((u : Tree) → Inhabits u K → removable_at u p ≡ None → Inhabits u M) → ((u t : Tree) → Inhabits u K → p ≢ [] → IsRemoved u p t → Inhabits t M)
+    → ((u : Tree) → Inhabits u K → removable_at u p ≡ None → Inhabits u M) → ((u t : Tree) → Inhabits u K → IsSome (removable_at u p) → IsRemoved u p t → Inhabits t M)
     → FitsMap before roots → IsStoreTakenOut root p before after → FitsMap after (with_kind root M roots)
 fits_taken_out root p before after roots K M known same less fits taken = by_value (value_of root before) refl taken where
   by_value : (o : Option Tree) → value_of root before ≡ o → MatchOption o (after ≡ before) (λ v. (w : Tree) × IsWithout v p w × (after ≡ with_value root w before)) → FitsMap after (with_kind root M roots)
@@ -180,14 +179,14 @@ fits_passed_over root p before after roots unknown fits taken = by_value (value_
 pub removals_fit : CutsAreWider → WiderKindsHoldMore → RemovalsAreOfTheirKind → NothingRemovedIsOfTheKind → RemovalsKeepFits
 removals_fit wider more removals nothing root p None known' before after is fits taken = absurd fits
 removals_fit wider more removals nothing root p (Some roots) known' before after is fits taken = by_kind (kind_of root roots) refl is where
-  by_kind : (k : Option KindTree) → kind_of root roots ≡ k → MatchOption k (known' ≡ Some roots) (λ K. HasNow root (remove (tags_at K) p) roots known') → FitsKnown after known'
+  by_kind : (k : Option KindTree) → kind_of root roots ≡ k → MatchOption k (known' ≡ Some roots) (λ K. HasNow root (IsLeftKind K p) roots known') → FitsKnown after known'
   by_kind None unknown same = subst (FitsKnown after) (sym same) (fits_passed_over root p before after roots unknown fits taken)
   by_kind (Some K) known now =
       let M = now.0 in
       let c = now.1 in
       subst (FitsKnown after) (sym now.2) (fits_taken_out root p before after roots K M known
-      (λ u old none. cut_holds wider more u c.whole M c.cut (nothing u p K c.whole c.tags old none))
-      (λ u t old some removed. cut_holds wider more t c.whole M c.cut (removals u t p K c.whole c.tags old some removed))
+      (λ u old none. cut_holds wider more u c.whole M c.cut (nothing u p K c.whole c.removal old none))
+      (λ u t old some removed. cut_holds wider more t c.whole M c.cut (removals u t p K c.whole c.removal old some removed))
       fits taken)
 
 -- ---- order

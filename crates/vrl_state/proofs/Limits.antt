@@ -3,9 +3,7 @@ use Rattle.std.proofs.Common.{◌≡◌, ◌≤◌, ℕ, Bool, true, false, ◌|
 use Rattle.std.proofs.lemmas.Bool.{cases_lt}
 use Rattle.std.specs.FinMap as map
 use Rattle.std.specs.FinSet as set
-use Rattle.vrl_value.specs.Look as Look
 use Rattle.vrl_value.specs.declared.value.Tag.TheVariants as tag
-use Rattle.vrl_path.specs.Steps.{plain_step}
 use Rattle.vrl_path.specs.declared.path.Step.{Step}
 use Rattle.vrl_syntax.specs.declared.root.Root.{Root}
 use Rattle.vrl_syntax.specs.declared.root.Root.TheVariants.{Event, Name}
@@ -14,12 +12,11 @@ use Rattle.vrl_kind.specs.Count.{nodes, levels}
 use Rattle.vrl_kind.specs.Cut.{IsCut, flat, flat_list, flat_object, level_limit, node_limit}
 use Rattle.vrl_kind.specs.KindTree.{KindTree, kind, ListTree, no_list, list_part, ObjectTree, no_object, object_part}
 use Rattle.vrl_kind.specs.Kinds as kinds
-use Rattle.vrl_kind.specs.Kinds.{step_tag, tags_at}
+use Rattle.vrl_kind.specs.Kinds.{tags_at}
 use Rattle.vrl_kind.specs.Sets.{Sets}
-use Rattle.vrl_kind.specs.Tags.{only}
-use Rattle.vrl_place.specs.Remove.{remove}
-use Rattle.vrl_place.specs.Write.{write}
-use Rattle.vrl_state.specs.States.{kind_of, kinds_back, with_kind, HasRootKinds, IsCutOf, IsEither, IsEitherMap, IsEitherVariable, IsMapWithin, IsPresent, IsRootKind, IsRootKindIf, RootMap, Scope, Variables}
+use Rattle.vrl_place.proofs.Removing.{removed_root as root_kept}
+use Rattle.vrl_place.proofs.Writing.{written_present}
+use Rattle.vrl_state.specs.States.{kind_of, kinds_back, with_kind, HasRootKinds, IsCutOf, IsEither, IsEitherMap, IsEitherVariable, IsLeftKind, IsMapWithin, IsPresent, IsRootKind, IsRootKindIf, IsWrittenKind, RootMap, Scope, Variables}
 use Rattle.vrl_state.proofs.Behind.{at_behind, first_of}
 use Rattle.vrl_state.proofs.Finite.{at_name, at_other, by_name}
 
@@ -65,27 +62,15 @@ cut_root K M canonical present c =
 pub sets_root : (A : Sets) (M : KindTree) → IsCutOf A M → A [] tag.Absent ≡ false → IsRootKind M
 sets_root A M c present = cut_root c.whole M c.canonical (c.tags [] tag.Absent ∙ present) c.cut
 
-never_absent : (s : Look.Step) → only (step_tag s) tag.Absent ≡ false
-never_absent (Look.field k) = refl
-never_absent (Look.place i) = refl
-
-written_present : (A N : Sets) (p : List Step) → N [] tag.Absent ≡ false → write A p N [] tag.Absent ≡ false
-written_present A N [] h = h
-written_present A N (s ∷ r) h = never_absent (plain_step s)
-
-pub written_root : (A : Sets) (K M : KindTree) (p : List Step) → IsPresent K → IsCutOf (write A p (tags_at K)) M → IsRootKind M
-written_root A K M p present c = sets_root _ M c (written_present A (tags_at K) p present)
+pub written_root : (J K M : KindTree) (p : List Step) → IsPresent K → IsWrittenKind J p K M → IsRootKind M
+written_root J K M p present c = cut_root c.whole M c.canonical (written_present (tags_at J) (tags_at K) (tags_at c.whole) p c.write present) c.cut
 
 pub no_steps : (p : List Step) → length p ≡ 0 → p ≡ []
 no_steps [] none = refl
 no_steps (s ∷ r) none = absurd (omega arith)
 
-removed_present : (A : Sets) (p : List Step) → remove A p [] tag.Absent ≡ A [] tag.Absent
-removed_present A [] = refl
-removed_present A (s ∷ r) = refl
-
-pub removed_root : (K M : KindTree) (p : List Step) → IsRootKind K → IsCutOf (remove (tags_at K) p) M → IsRootKind M
-removed_root K M p is c = sets_root _ M c (removed_present (tags_at K) p ∙ is.present)
+pub removed_root : (K M : KindTree) (p : List Step) → IsRootKind K → IsLeftKind K p M → IsRootKind M
+removed_root K M p is c = cut_root c.whole M c.canonical (root_kept (tags_at K) (tags_at c.whole) p tag.Absent c.removal ∙ is.present) c.cut
 
 pub either_root : (K L M : KindTree) → IsRootKind K → IsRootKind L → IsEither K L M → IsRootKind M
 either_root K L M k l c = sets_root _ M c (ap (λ b. b || tags_at L [] tag.Absent) k.present ∙ l.present)

@@ -20,8 +20,8 @@ use Rattle.vrl_kind.specs.Kinds as kinds
 use Rattle.vrl_kind.specs.Kinds.{tags_at}
 use Rattle.vrl_kind.specs.Make.{object_kind}
 use Rattle.vrl_kind.specs.Sets.{Sets, SameSets}
-use Rattle.vrl_place.specs.Remove.{remove}
-use Rattle.vrl_place.specs.Write.{write}
+use Rattle.vrl_place.specs.Remove.{IsRemoval}
+use Rattle.vrl_place.specs.Write.{IsWrite}
 
 -- ---- what a state is
 
@@ -115,21 +115,35 @@ abbrev pub written_from : Option KindTree → KindTree
 written_from None = any_kind
 written_from (Some K) = K
 
--- the root has the kind with these tags, cut
-abbrev pub HasNow : Root → Sets → RootMap → Option RootMap → Type 0
-HasNow root A roots after = (M : KindTree) × IsCutOf A M × (after ≡ Some (with_kind root M roots))
+-- M is K with N written at the path, cut
+pub record IsWrittenKind (K : KindTree) (p : List Step) (N M : KindTree) : Type 0 where
+  pub whole : KindTree
+  pub canonical : IsCanonical whole
+  pub write : IsWrite (tags_at K) p (tags_at N) (tags_at whole)
+  pub cut : IsCut whole M
+
+-- M is K without what stands at the path, cut
+pub record IsLeftKind (K : KindTree) (p : List Step) (M : KindTree) : Type 0 where
+  pub whole : KindTree
+  pub canonical : IsCanonical whole
+  pub removal : IsRemoval (tags_at K) p (tags_at whole)
+  pub cut : IsCut whole M
+
+-- the root has a kind of which this holds
+abbrev pub HasNow : Root → (KindTree → Type 0) → RootMap → Option RootMap → Type 0
+HasNow root Is roots after = (M : KindTree) × Is M × (after ≡ Some (with_kind root M roots))
 
 -- the root's kind with N written at the path; a dead state stays dead
 abbrev pub IsWritten : Root → List Step → KindTree → Option RootMap → Option RootMap → Type 0
 IsWritten root p N None after = after ≡ None
 IsWritten root p N (Some roots) after =
-    HasNow root (write (tags_at (written_from (kind_of root roots))) p (tags_at N)) roots after
+    HasNow root (IsWrittenKind (written_from (kind_of root roots)) p N) roots after
 
 -- the root's kind without what stands at the path; a root that isn't known is passed over
 abbrev pub IsTakenOut : Root → List Step → Option RootMap → Option RootMap → Type 0
 IsTakenOut root p None after = after ≡ None
 IsTakenOut root p (Some roots) after =
-    MatchOption (kind_of root roots) (after ≡ Some roots) (λ K. HasNow root (remove (tags_at K) p) roots after)
+    MatchOption (kind_of root roots) (after ≡ Some roots) (λ K. HasNow root (IsLeftKind K p) roots after)
 
 -- ---- joins
 

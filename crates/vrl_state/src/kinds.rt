@@ -1,11 +1,10 @@
-ghost use Rattle.std.specs.Prelude.{◌≡◌, ◌↔◌, IfOk, IsTrue, OnErr, OnOk, option_map, unwrap_or};
-ghost use Rattle.vrl_path.specs.Steps.{IsPlain, IsWritable};
+ghost use Rattle.std.specs.Prelude.{◌≡◌, ◌↔◌, IfOk, IsTrue, OnErr, OnOk, [], option_map, unwrap_or};
+ghost use Rattle.vrl_path.specs.Steps.{IsWritable};
 ghost use Rattle.vrl_kind.specs.Canonical.{any_kind};
 ghost use Rattle.vrl_kind.specs.Cut.{flat, IsCut};
-ghost use Rattle.vrl_kind.specs.Kinds.{tags_at, IsWithin};
-ghost use Rattle.vrl_place.specs.Remove.{remove};
-ghost use Rattle.vrl_place.specs.Write.{write};
-ghost use Rattle.vrl_state.specs.States.{json_object, IsCutOf, IsEither, IsRootKind};
+ghost use Rattle.vrl_kind.specs.KindTree.{KindTree};
+ghost use Rattle.vrl_kind.specs.Kinds.{IsWithin};
+ghost use Rattle.vrl_state.specs.States.{json_object, IsEither, IsLeftKind, IsRootKind, IsWrittenKind};
 
 use std::alloc::Global;
 use std::rc::Rc;
@@ -126,7 +125,7 @@ pub(crate) fn shared_either(alloc: Global, a: &Rc<Kind>, b: &Rc<Kind>) -> Result
 
 // The kind of a root that is written as a whole. `Memory`: want of memory.
 pub(crate) fn whole(alloc: Global, new: &Rc<Kind>) -> Result<Rc<Kind>, Memory>
-    ensures { IfOk result (λ after. IsCutOf (tags_at new.now.value) after.value) }
+    ensures { IfOk result (λ after. (old : KindTree) → IsWrittenKind old [] new.now.value after.value) }
 {
     kind_is_canonical(new);
     cut_shared(alloc, new)
@@ -140,7 +139,7 @@ pub(crate) fn written(
     new: &Kind,
 ) -> Result<Rc<Kind>, Memory>
     requires { IsWritable path.now }
-    ensures { IfOk result (λ after. IsCutOf (write (tags_at kind.now.value) path.now (tags_at new.now)) after.value) }
+    ensures { IfOk result (λ after. IsWrittenKind kind.now.value path.now new.now after.value) }
 {
     let mut own = kind.copy(alloc)?;
     write_cut(alloc, &mut own, path, new)?;
@@ -149,8 +148,7 @@ pub(crate) fn written(
 
 // The kind without what stands at a path, cut. `Memory`: want of memory.
 pub(crate) fn taken_out(alloc: Global, kind: &Rc<Kind>, path: &Path) -> Result<Rc<Kind>, Memory>
-    requires { IsPlain path.now }
-    ensures { IfOk result (λ after. IsCutOf (remove (tags_at kind.now.value) path.now) after.value) }
+    ensures { IfOk result (λ after. IsLeftKind kind.now.value path.now after.value) }
 {
     let mut own = kind.copy(alloc)?;
     take_out(alloc, &mut own, path)?;
@@ -161,7 +159,7 @@ pub(crate) fn taken_out(alloc: Global, kind: &Rc<Kind>, path: &Path) -> Result<R
 // as it was.
 fn write_cut(alloc: Global, kind: &mut Kind, path: &Path, new: &Kind) -> Result<(), Memory>
     requires { IsWritable path.now }
-    ensures ok { OnOk result (IsCutOf (write (tags_at kind.old) path.now (tags_at new.now)) kind.new) }
+    ensures ok { OnOk result (IsWrittenKind kind.old path.now new.now kind.new) }
     ensures err { OnErr result (kind.new ≡ kind.old) }
 {
     let copy = new.copy(alloc)?;
@@ -174,8 +172,7 @@ fn write_cut(alloc: Global, kind: &mut Kind, path: &Path, new: &Kind) -> Result<
 // Takes out what stands at a path of a kind, which is then cut. `Memory`: want of memory; the kind
 // stays as it was.
 fn take_out(alloc: Global, kind: &mut Kind, path: &Path) -> Result<(), Memory>
-    requires { IsPlain path.now }
-    ensures ok { OnOk result (IsCutOf (remove (tags_at kind.old) path.now) kind.new) }
+    ensures ok { OnOk result (IsLeftKind kind.old path.now kind.new) }
     ensures err { OnErr result (kind.new ≡ kind.old) }
 {
     remove_kind(alloc, kind, path)?;
@@ -193,7 +190,7 @@ pub(crate) fn write_shared(
     new: &Kind,
 ) -> Result<(), Memory>
     requires { IsWritable path.now }
-    ensures ok { OnOk result (IsCutOf (write (tags_at kind.old.value) path.now (tags_at new.now)) kind.new.value) }
+    ensures ok { OnOk result (IsWrittenKind kind.old.value path.now new.now kind.new.value) }
     ensures err { OnErr result (kind.new.value ≡ kind.old.value) }
 {
     match Rc::get_mut(kind) {
@@ -209,8 +206,7 @@ pub(crate) fn write_shared(
 // Takes out what stands at a path of a shared kind, which is then cut: in its place where nobody
 // else has it. `Memory`: want of memory; the kind stays as it was.
 pub(crate) fn take_out_shared(alloc: Global, kind: &mut Rc<Kind>, path: &Path) -> Result<(), Memory>
-    requires { IsPlain path.now }
-    ensures ok { OnOk result (IsCutOf (remove (tags_at kind.old.value) path.now) kind.new.value) }
+    ensures ok { OnOk result (IsLeftKind kind.old.value path.now kind.new.value) }
     ensures err { OnErr result (kind.new.value ≡ kind.old.value) }
 {
     match Rc::get_mut(kind) {

@@ -1,15 +1,13 @@
 ghost use Rattle.std.specs.Prelude.{◌≡◌, ◌↔◌, [], IfOk, IfSome, IsTrue, OnErr, OnOk, Some, option_map, List, ℕ};
 ghost use Rattle.std.specs.FinMap as map;
-ghost use Rattle.vrl_path.specs.Steps.{IsPlain, IsWritable};
+ghost use Rattle.vrl_path.specs.Steps.{IsWritable};
 ghost use Rattle.vrl_syntax.specs.declared.root.Root.TheVariants.{Event, Name};
 ghost use Rattle.vrl_kind.specs.Canonical.{any_kind};
 ghost use Rattle.vrl_kind.specs.Cut.{flat, IsCut};
 ghost use Rattle.vrl_kind.specs.KindTree.{KindTree};
-ghost use Rattle.vrl_kind.specs.Kinds.{tags_at};
-ghost use Rattle.vrl_place.specs.Write.{write};
 ghost use Rattle.vrl_state.specs.Known.{root_kinds, AreTakenOver};
 ghost use Rattle.vrl_state.specs.Merging.{IsTurnedAt};
-ghost use Rattle.vrl_state.specs.States.{kept, kind_of, with_kind, written_from, HasRootKinds, IsCutOf, IsEitherMap, IsFlattened, IsForgotten, IsMapWithin, IsPresent, IsRootKind, IsRootKindIf, IsTakenOut, IsWritten};
+ghost use Rattle.vrl_state.specs.States.{kept, kind_of, with_kind, written_from, HasRootKinds, IsEitherMap, IsFlattened, IsForgotten, IsMapWithin, IsPresent, IsRootKind, IsRootKindIf, IsTakenOut, IsWritten, IsWrittenKind};
 ghost use Rattle.vrl_state.specs.View.{scope_of};
 
 use crate::kinds::{
@@ -142,8 +140,7 @@ impl KnownRoots {
     ) -> Result<Rc<Kind>, Memory>
         requires { IsWritable path.now }
         ensures { IfOk result
-            (λ after. IsCutOf
-            (write (tags_at (written_from (kind_of root.now self.now))) path.now (tags_at new.now)) after.value) }
+            (λ after. IsWrittenKind (written_from (kind_of root.now self.now)) path.now new.now after.value) }
     {
         match self.kind(root) {
             Some(kind) => written(alloc, kind, path, new),
@@ -216,7 +213,6 @@ impl KnownRoots {
     // Takes out what stands at a path; a root that is not known is passed over. `Memory`: want of
     // memory; the kinds stay as they were.
     pub(crate) fn remove(&mut self, alloc: Global, root: &Root, path: &Path) -> Result<(), Memory>
-        requires { IsPlain path.now }
         ensures ok { OnOk result (IsTakenOut root.now path.now (Some self.old) (Some self.new)) }
         ensures err { OnErr result (self.new ≡ self.old) }
     {
@@ -228,7 +224,6 @@ impl KnownRoots {
 
     // The same of the event, whose kind is changed in its place where nobody else has it.
     fn remove_of_event(&mut self, alloc: Global, path: &Path) -> Result<(), Memory>
-        requires { IsPlain path.now }
         ensures ok { OnOk result (IsTakenOut Event path.now (Some self.old) (Some self.new)) }
         ensures err { OnErr result (self.new ≡ self.old) }
     {
@@ -238,7 +233,6 @@ impl KnownRoots {
 
     // The same of any root, whose kind is made anew.
     fn remove_of_variable(&mut self, alloc: Global, root: &Root, path: &Path) -> Result<(), Memory>
-        requires { IsPlain path.now }
         ensures ok { OnOk result (IsTakenOut root.now path.now (Some self.old) (Some self.new)) }
         ensures err { OnErr result (self.new ≡ self.old) }
     {

@@ -1,6 +1,6 @@
 ghost use Rattle.std.specs.Prelude.{◌≡◌, ◌≢◌, ◌↔◌, ◌∷◌, [], ℕ, IfOk, IfSome, IsOk, IsTrue, List, None, OnErr, OnOk, Some, option_map};
 ghost use Rattle.vrl_value.specs.Tree.{Tree};
-ghost use Rattle.vrl_path.specs.Steps.{IsPlain, IsWritable};
+ghost use Rattle.vrl_path.specs.Steps.{IsWritable};
 ghost use Rattle.vrl_kind.specs.Kinds.{Inhabits};
 ghost use Rattle.vrl_syntax.specs.declared.root.Root.TheVariants.{Name};
 ghost use Rattle.vrl_state.specs.Known.{known_as, FitsListed, HaveRootKinds, IsReplaced};
@@ -142,7 +142,6 @@ impl State {
     /// Takes out what stands at a path of a root, whose kind is then cut; a root that is not known
     /// is passed over. `Memory`: want of memory; the state stays as it was.
     pub fn remove(&mut self, root: &Root, path: &Path) -> Result<(), Memory>
-        requires { IsPlain path.now }
         ensures removed { OnOk result (IsTakenOut root.now path.now self.old.known self.new.known) }
         ensures scopes { self.new.scopes ≡ self.old.scopes }
         ensures fits { OnOk result ((before after : Store) → Fits before self.old
@@ -355,7 +354,6 @@ fn remove(
     root: &Root,
     path: &Path,
 ) -> Result<(), Memory>
-    requires { IsPlain path.now }
     ensures removed { OnOk result (IsTakenOut root.now path.now known.old known.new) }
     ensures err { OnErr result (known.new ≡ known.old) }
 {

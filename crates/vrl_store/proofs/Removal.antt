@@ -1,15 +1,17 @@
 -- What is left of a value from which a part was taken out is no deeper, and what is taken out is what look-up finds.
-use Rattle.std.proofs.Common.{◌≡◌, ℕ, zero, suc, ◌≤◌, List, [], ◌∷◌, max, Option, Some, None, Ordering, Less, Equal, Greater, nat_cmp, refl, arith}
+use Rattle.std.proofs.Common.{◌≡◌, ℕ, zero, suc, ◌≤◌, List, [], ◌∷◌, max, Option, Some, None, unwrap_or, Ordering, Less, Equal, Greater, nat_cmp, refl, arith}
 use Rattle.std.specs.Cmp.Lexicographic.{slice_cmp}
 use Rattle.std.specs.Ordering.{match_ordering}
 use Rattle.vrl_value.specs.Depth.{depth_of, items_depth, members_depth}
-use Rattle.vrl_value.specs.Look.{Step, field, place, found_if, item_at, part_at}
-use Rattle.vrl_value.specs.Parts.{replace, replace_item, without, without_item}
+use Rattle.vrl_value.specs.Look.{Step, field, place, Found, there, missing, no_place, found_if, item_at}
+use Rattle.vrl_value.specs.Parts.{count_of, replace, replace_item, without, without_item}
 use Rattle.vrl_value.specs.Tree.{Tree, array, object, Items, no_items, item, Members, no_members, member, find}
+use Rattle.vrl_path.specs.FromEnd.{step_in}
 use Rattle.vrl_path.specs.Parts.{replace_part, without_part}
-use Rattle.vrl_path.specs.Steps.{plain_step}
+use Rattle.vrl_path.specs.Read.{item_if, place_of, signed_part_at}
 use Rattle.vrl_path.specs.Trees.{if_there, remove_tree}
 use Rattle.vrl_path.specs.declared.path.Step.{Step as CodeStep}
+use Rattle.vrl_path.specs.declared.path.Step.TheVariants.{Field, Place}
 
 -- ---- what is found is below what it is found in
 
@@ -81,12 +83,22 @@ kept_item : (i : ℕ) (o : Option Tree) (ts : Items) (f : Tree → Tree) → ite
 kept_item i None ts f is less found = omega arith
 kept_item i (Some u) ts f is less found = let h = replaced_item i (f u) ts (items_depth ts) (let l = less u in omega arith) (omega arith) in omega arith
 
-kept_part : (s : Step) (v : Tree) (f : Tree → Tree) → ((u : Tree) → depth_of (f u) ≤ depth_of u) → depth_of (if_there (part_at v s) (λ u. replace_part s (f u) v) v) ≤ depth_of v
-kept_part (field k) (object ms) f less = kept_member k (find k ms) ms f refl less (found_member k ms)
-kept_part (place i) (array ts) f less = kept_item i (item_at i ts) ts f refl less (found_item i ts)
+kept_place : (o : Option ℕ) (ts : Items) (f : Tree → Tree) → ((u : Tree) → depth_of (f u) ≤ depth_of u)
+    → depth_of (if_there (item_if o ts) (λ u. replace_part (place (unwrap_or o 0)) (f u) (array ts)) (array ts)) ≤ suc (items_depth ts)
+kept_place None ts f less = omega arith
+kept_place (Some i) ts f less = kept_item i (item_at i ts) ts f refl less (found_item i ts)
+
+kept_part : (s : CodeStep) (v : Tree) (f : Tree → Tree) → ((u : Tree) → depth_of (f u) ≤ depth_of u) → depth_of (if_there (signed_part_at v s) (λ u. replace_part (step_in v s) (f u) v) v) ≤ depth_of v
+kept_part (Field k) (object ms) f less = kept_member k (find k ms) ms f refl less (found_member k ms)
+kept_part (Place z) (array ts) f less = kept_place (place_of (count_of ts) z) ts f less
 kept_part s v f less = omega arith
+
+left_if : (f : Found) (v w : Tree) → depth_of w ≤ depth_of v → depth_of (if_there f (λ u. w) v) ≤ depth_of v
+left_if (there u) v w less = less
+left_if missing v w less = omega arith
+left_if no_place v w less = omega arith
 
 pub removed_depth : (v : Tree) (p : List CodeStep) → depth_of (remove_tree v p) ≤ depth_of v
 removed_depth v [] = omega arith
-removed_depth v (s ∷ []) = left_part (plain_step s) v
-removed_depth v (s ∷ r ∷ p) = kept_part (plain_step s) v (λ u. remove_tree u (r ∷ p)) (λ u. removed_depth u (r ∷ p))
+removed_depth v (s ∷ []) = left_if (signed_part_at v s) v (without_part (step_in v s) v) (left_part (step_in v s) v)
+removed_depth v (s ∷ r ∷ p) = kept_part s v (λ u. remove_tree u (r ∷ p)) (λ u. removed_depth u (r ∷ p))

@@ -4,7 +4,7 @@ ghost use Rattle.vrl_value.specs.Depth.{depth_of};
 ghost use Rattle.vrl_value.specs.Tree.{null};
 ghost use Rattle.vrl_value.specs.View.{members_of, tree_of};
 ghost use Rattle.vrl_value.specs.declared.value.Value.TheVariants as value;
-ghost use Rattle.vrl_path.specs.Steps.{IsPlain, IsWritable};
+ghost use Rattle.vrl_path.specs.Steps.{IsWritable};
 ghost use Rattle.vrl_path.specs.Trees.{remove_tree, set_tree};
 ghost use Rattle.vrl_path.specs.Write.{depth_limit};
 ghost use Rattle.vrl_syntax.specs.Stores.{metadata, store_of, value_of, with_value};
@@ -18,10 +18,7 @@ use crate::naming::named;
 use crate::target_path::{Base, TargetPath};
 use std::alloc::Global;
 use std::collections::BTreeMap;
-use vrl_path::{
-    DEPTH_LIMIT, Path, SetFault, exists, get, put, reads_are_look_ups, remove, set,
-    set_trees_are_sets,
-};
+use vrl_path::{DEPTH_LIMIT, Path, SetFault, exists, get, put, remove, set, set_trees_are_sets};
 use vrl_value::{Fields, Memory, Names, Value};
 
 /// The event and the variables of a run. The metadata is the first of the variables, and always
@@ -291,7 +288,6 @@ impl Store {
     /// of memory; the store stays as it was.
     pub fn take(&mut self, alloc: Global, target: &TargetPath) -> Result<Value, Memory>
         requires base { IsKnown (count_of self.old) target.now.base }
-        requires plain { IsPlain target.now.path }
         ensures value { IfOk result (λ value. (names : Names) → AreNames names self.old
             → tree_of value ≡ spec.read_in (root_of names target.now.base) target.now.path (store_in names self.old)) }
         ensures removed { OnOk result ((names : Names) → AreNames names self.old
@@ -339,7 +335,6 @@ impl Store {
     fn take_part(&mut self, base: Base, path: &Path) -> Value
         requires base { IsKnown (count_of self.old) base }
         requires part { 0 < length path.now }
-        requires plain { IsPlain path.now }
         ensures value { (names : Names) → AreNames names self.old
             → tree_of result ≡ spec.read_in (root_of names base) path.now (store_in names self.old) }
         ensures removed { (names : Names) → AreNames names self.old
@@ -470,11 +465,9 @@ fn both(first: bool, second: bool) -> bool
 // Takes out what stands at a path of a value; null where nothing does.
 fn take_from(value: &mut Value, path: &Path) -> Value
     requires part { 0 < length path.now }
-    requires plain { IsPlain path.now }
     ensures value { tree_of result ≡ spec.part_of (tree_of value.old) path.now }
     ensures rest { tree_of value.new ≡ remove_tree (tree_of value.old) path.now }
 {
-    reads_are_look_ups();
     match remove(value, path) {
         Some(part) => part,
         None => Value::Null,

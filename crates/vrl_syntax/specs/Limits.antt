@@ -1,7 +1,7 @@
 -- The paths that a part of a script writes or deletes, and the limits that they keep.
-use Rattle.std.specs.Prelude.{◌≡◌, ◌||◌, Bool, true, false, List, [], ◌++◌, length, Option, Some, None, option_to_list, nat_lt, pos, negsuc, if◌then◌else◌}
+use Rattle.std.specs.Prelude.{◌≡◌, ◌||◌, Bool, false, List, [], ◌++◌, length, Option, Some, None, option_to_list, nat_lt, suc, pos, negsuc, if◌then◌else◌}
 use Rattle.std.specs.List.{list_any}
-use Rattle.vrl_path.specs.Steps.{last_place}
+use Rattle.vrl_path.specs.Steps.{farthest_from_end, last_place}
 use Rattle.vrl_path.specs.Write.{depth_limit}
 use Rattle.vrl_path.specs.declared.path.Step.{Step}
 use Rattle.vrl_path.specs.declared.path.Step.TheVariants.{Field, Place}
@@ -12,23 +12,18 @@ use Rattle.vrl_syntax.specs.Calls.{is_del}
 use Rattle.vrl_syntax.specs.declared.root.Target.{Target}
 use Rattle.vrl_syntax.specs.declared.root.Target.TheVariants as target
 
-abbrev pub is_negative : Step → Bool
-is_negative (Field name) = false
-is_negative (Place (pos i)) = false
-is_negative (Place (negsuc i)) = true
+-- the step is a place that can't be written: one above the greatest, or too far from the end
+abbrev pub is_out_of_range : Step → Bool
+is_out_of_range (Field name) = false
+is_out_of_range (Place (pos i)) = nat_lt last_place i
+is_out_of_range (Place (negsuc i)) = nat_lt farthest_from_end (suc i)
 
-abbrev pub is_too_large : Step → Bool
-is_too_large (Field name) = false
-is_too_large (Place (pos i)) = nat_lt last_place i
-is_too_large (Place (negsuc i)) = false
-
--- what is wrong with the path that stands there: a negative index, else one above the greatest
--- place or more steps than a value is deep
+-- what is wrong with the path that stands there: an index that can't be written, or more steps than
+-- a value is deep
 abbrev pub fault_at : Span → List Step → Option Diagnostic
 fault_at span path =
-    if list_any is_negative path then Some (record { code = 1007; span = span }) else
-    (if nat_lt depth_limit (length path) || list_any is_too_large path then Some (record { code = 1012; span = span })
-    else None)
+    if nat_lt depth_limit (length path) || list_any is_out_of_range path then Some (record { code = 1012; span = span })
+    else None
 
 abbrev pub faults_at : Span → List Step → List Diagnostic
 faults_at span path = option_to_list (fault_at span path)

@@ -1,20 +1,19 @@
 ghost use Rattle.std.specs.Prelude.{◌≡◌, ◌++◌, [], IfOk, OnOk, if◌then◌else◌};
 ghost use Rattle.std.specs.List.{list_any};
 ghost use Rattle.vrl_syntax.specs.View.{args_of, arms_of, call_of, expr_of, exprs_of, pairs_of};
-ghost use Rattle.vrl_syntax.specs.Limits.{args_faults, arms_faults, expr_faults, exprs_faults, fault_at as fault_at_place, faults_at, form_faults, is_negative as negative_step, is_too_large as too_large_step, pairs_faults, path_faults, target_faults};
+ghost use Rattle.vrl_syntax.specs.Limits.{args_faults, arms_faults, expr_faults, exprs_faults, fault_at as fault_at_place, faults_at, form_faults, is_out_of_range as out_of_range, pairs_faults, path_faults, target_faults};
 
 use crate::call_form::is_del;
 use crate::root::Target;
 use crate::tree::{Args, Arms, Call, Expr, Exprs, Form, Pairs};
 use std::alloc::Global;
 use vrl_diag::{Diagnostic, Diagnostics, Span, code};
-use vrl_path::{DEPTH_LIMIT, PLACE_LIMIT, Path, Step};
+use vrl_path::{DEPTH_LIMIT, LEAST_PLACE, PLACE_LIMIT, Path, Step};
 use vrl_value::Memory;
 
-/// What is wrong with the paths that these items write or delete, in the order of the script: 1007
-/// for one with a negative index, else 1012 for one with an index above 65,535 or more than 128
-/// steps. An assignment writes its targets' paths, and `del` deletes those of its arguments that
-/// are paths or names.
+/// What is wrong with the paths that these items write or delete, in the order of the script: 1012
+/// for one with an index above 65,535 or below -65,536, or more than 128 steps. An assignment
+/// writes its targets' paths, and `del` deletes those of its arguments that are paths or names.
 ///
 /// # Errors
 ///
@@ -163,13 +162,7 @@ fn fault_at(span: Span, path: &Path) -> Option<Diagnostic>
     ensures { result ≡ fault_at_place span path.now }
 {
     let steps = path.as_slice();
-    if has_negative(steps) {
-        return Some(Diagnostic {
-            code: code::NEGATIVE_INDEX_WRITTEN,
-            span,
-        });
-    }
-    if steps.len() as u64 > DEPTH_LIMIT || has_too_large(steps) {
+    if steps.len() as u64 > DEPTH_LIMIT || has_out_of_range(steps) {
         return Some(Diagnostic {
             code: code::WRITTEN_PATH_TOO_LARGE,
             span,
@@ -178,32 +171,17 @@ fn fault_at(span: Span, path: &Path) -> Option<Diagnostic>
     None
 }
 
-fn has_negative(steps: &[Step]) -> bool
-    ensures { result ≡ list_any negative_step steps.now }
+fn has_out_of_range(steps: &[Step]) -> bool
+    ensures { result ≡ list_any out_of_range steps.now }
 {
-    steps.iter().any(is_negative)
+    steps.iter().any(is_out_of_range)
 }
 
-fn has_too_large(steps: &[Step]) -> bool
-    ensures { result ≡ list_any too_large_step steps.now }
-{
-    steps.iter().any(is_too_large)
-}
-
-fn is_negative(step: &Step) -> bool
-    ensures { result ≡ negative_step step.now }
+fn is_out_of_range(step: &Step) -> bool
+    ensures { result ≡ out_of_range step.now }
 {
     match step {
         Step::Field(_) => false,
-        Step::Place(place) => *place < 0,
-    }
-}
-
-fn is_too_large(step: &Step) -> bool
-    ensures { result ≡ too_large_step step.now }
-{
-    match step {
-        Step::Field(_) => false,
-        Step::Place(place) => *place > PLACE_LIMIT,
+        Step::Place(place) => *place > PLACE_LIMIT || *place < LEAST_PLACE,
     }
 }

@@ -1,8 +1,9 @@
 // Kinds of what is read, written and removed at paths of a field and a place.
 ghost use Rattle.std.specs.Prelude.{IfOk};
-ghost use Rattle.vrl_path.specs.Steps.{IsPlain, IsWritable};
+ghost use Rattle.vrl_path.specs.Steps.{IsWritable};
 
 use crate::kinds::kind_of_words;
+use crate::paths::place_from_end;
 use std::alloc::Global;
 use std::process::Abort;
 use vrl_kind::{Kind, print};
@@ -12,8 +13,7 @@ use vrl_value::{Chars, Memory};
 
 // To a field, if there is a name, and to a place of it, if there is one.
 pub(crate) fn path_to(alloc: Global, name: &str, place: Option<u16>) -> Result<Path, Memory>
-    ensures writable { IfOk result (λ path. IsWritable path) }
-    ensures plain { IfOk result (λ path. IsPlain path) }
+    ensures { IfOk result (λ path. IsWritable path) }
 {
     let mut steps = Vec::new(alloc);
     if !name.is_empty() {
@@ -33,6 +33,22 @@ fn signed_path_to(alloc: Global, name: &str, place: Option<i64>) -> Result<Path,
     }
     if let Some(place) = place {
         steps.push(Step::Place(place))?;
+    }
+    Ok(Path::new(steps))
+}
+
+// To a place of a field, or of the whole if there is no name, so far from the last one, and to a field of that
+// place, if there is a name behind it.
+fn path_from_end(alloc: Global, name: &str, distance: u16, behind: &str) -> Result<Path, Memory>
+    ensures { IfOk result (λ path. IsWritable path) }
+{
+    let mut steps = Vec::new(alloc);
+    if !name.is_empty() {
+        steps.push(Step::Field(Chars::copy_of(alloc, name)?))?;
+    }
+    steps.push(Step::Place(place_from_end(distance)))?;
+    if !behind.is_empty() {
+        steps.push(Step::Field(Chars::copy_of(alloc, behind)?))?;
     }
     Ok(Path::new(steps))
 }
@@ -68,9 +84,7 @@ fn write(alloc: Global, words: &str, path: &Path, new: &str) -> Result<Kind, Mem
     Ok(kind)
 }
 
-fn remove(alloc: Global, words: &str, path: &Path) -> Result<Kind, Memory>
-    requires { IsPlain path.now }
-{
+fn remove(alloc: Global, words: &str, path: &Path) -> Result<Kind, Memory> {
     let mut kind = kind_of_words(alloc, words)?;
     remove_kind(alloc, &mut kind, path)?;
     Ok(kind)
@@ -79,8 +93,7 @@ fn remove(alloc: Global, words: &str, path: &Path) -> Result<Kind, Memory>
 // The kind of words after the kind of new words is written at a path of it, or, if there are none,
 // after what stands there is removed.
 fn changed(alloc: Global, words: &str, path: &Path, new: Option<&str>) -> Result<Kind, Memory>
-    requires writable { IsWritable path.now }
-    requires plain { IsPlain path.now }
+    requires { IsWritable path.now }
 {
     match new {
         Some(new) => write(alloc, words, path, new),
@@ -385,4 +398,104 @@ const REMOVALS: [(&str, &str, Option<u16>, &str, bool); 19] = [
 #[test]
 fn kinds_are_removed_at_paths(rt: HostRuntime) -> Result<(), Memory> {
     expect_removals(&rt, rt.alloc(), &REMOVALS)
+}
+
+// Words, a field or the whole, how far from its last place, a field behind that or none, the words of what is
+// written there, or none for a removal, and how the kind is told then.
+const FROM_END: [(&str, &str, u16, &str, Option<&str>, &str); 19] = [
+    // Arrays of one length, and of others.
+    (
+        "[1,2,3]",
+        "",
+        1,
+        "",
+        Some("string"),
+        "[integer, string, integer]",
+    ),
+    (
+        "[1,2,3]",
+        "",
+        2,
+        "",
+        Some("string"),
+        "[string, integer, integer]",
+    ),
+    (
+        "[1,2,3]",
+        "",
+        3,
+        "",
+        Some("string"),
+        "[..string|integer|null]",
+    ),
+    (
+        "[1]|[1,true]",
+        "",
+        0,
+        "",
+        Some("string"),
+        "[..string|integer|boolean|null]",
+    ),
+    ("any", "", 0, "", Some("integer"), "[..any]"),
+    (
+        "[1]|{}",
+        "",
+        0,
+        "",
+        Some("string"),
+        "[..string|integer|null]",
+    ),
+    ("never", "", 0, "", Some("string"), "[..string|null]"),
+    ("[1,\"s\"]", "", 0, "", None, "[integer]"),
+    ("[1,\"s\"]", "", 1, "", None, "[string]"),
+    ("[1,\"s\"]", "", 2, "", None, "[integer, string]"),
+    ("[..integer]", "", 0, "", None, "[..integer]"),
+    (
+        "[1]|[1,\"s\"]|true",
+        "",
+        0,
+        "",
+        None,
+        "boolean|[..string|integer]",
+    ),
+    ("integer", "", 0, "", None, "integer"),
+    // Behind a field, and with a field behind.
+    (
+        "{\"a\":[1,2]}",
+        "a",
+        0,
+        "",
+        Some("string"),
+        "{\"a\": [integer, string]}",
+    ),
+    ("{\"a\":[1,\"s\"]}", "a", 0, "", None, "{\"a\": [integer]}"),
+    (
+        "[{\"a\":1}]",
+        "",
+        0,
+        "a",
+        Some("string"),
+        "[{\"a\": string}]",
+    ),
+    (
+        "[..integer]",
+        "",
+        0,
+        "a",
+        Some("string"),
+        "[..integer|null|{\"a\": string}]",
+    ),
+    ("[{\"a\":1}]", "", 0, "a", None, "[{}]"),
+    ("[{\"a\":1}]|[]", "", 0, "a", None, "[..{\"a\"?: integer}]"),
+];
+
+#[test]
+fn kinds_are_changed_from_the_end(rt: HostRuntime) -> Result<(), Memory> {
+    let alloc = rt.alloc();
+    for (words, name, distance, behind, new, told) in &FROM_END {
+        let path = path_from_end(alloc, name, *distance, behind)?;
+        let text = print(alloc, &changed(alloc, words, &path, *new)?)?;
+        assert!(rt; text.as_str() == *told, "at {words:?}");
+    }
+    Ok(())
 }

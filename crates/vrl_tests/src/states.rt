@@ -1,7 +1,7 @@
 // What is known after writes that words tell, and what a state shares.
 ghost use Rattle.std.specs.Prelude.{◌≡◌, [], IfOk, OnOk};
 ghost use Rattle.vrl_state.specs.States.{IsPresent};
-ghost use Rattle.vrl_path.specs.Steps.{IsPlain, IsWritable};
+ghost use Rattle.vrl_path.specs.Steps.{IsWritable};
 
 use crate::kinds::kind_of_word;
 use crate::places::path_to;
@@ -33,8 +33,7 @@ fn root_of(alloc: Global, path: &str) -> Result<Root, Memory> {
 
 // The field behind the point, if there is one.
 fn steps_of(alloc: Global, path: &str) -> Result<Path, Memory>
-    ensures writable { IfOk result (λ path. IsWritable path) }
-    ensures plain { IfOk result (λ path. IsPlain path) }
+    ensures { IfOk result (λ path. IsWritable path) }
 {
     path_to(alloc, halves(path).1, None)
 }

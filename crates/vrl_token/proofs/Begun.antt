@@ -6,10 +6,11 @@ use Rattle.vrl_value.specs.Laws.{MomentsReadBack}
 use Rattle.vrl_path.specs.declared.path.Step.{Step}
 use Rattle.vrl_token.specs.declared.piece.Piece.{Piece}
 use Rattle.vrl_token.specs.declared.piece.Piece.TheVariants.{Blank, Comment, Newline, Brace, Bar, Word}
+use Rattle.vrl_token.specs.declared.token.Hole.{Hole}
 use Rattle.vrl_token.specs.declared.token.Token.{Token}
 use Rattle.vrl_token.specs.declared.token.Token.TheVariants as token
 use Rattle.vrl_token.specs.Lexical.{BeginsInside, BeginsOutside, IsBlank, IsDigit, IsLongestRun, IsName, IsNamePart, IsNameStart, keywords}
-use Rattle.vrl_token.specs.Characters.{Character, HasTemplate}
+use Rattle.vrl_token.specs.Characters.{Character}
 use Rattle.vrl_token.specs.Numbers.{DigitsGoOn, IsBehindSign, IsDigits, IsNumeral}
 use Rattle.vrl_token.specs.Paths.{BeginsDotted, HasFlaw, HasSteps, RootSegments, Segment, Segments, field, index, quoted}
 use Rattle.vrl_token.specs.Context.{closes_before}
@@ -19,7 +20,7 @@ use Rattle.vrl_token.specs.Faults.{IsBehindCharacter, IsFault, IsStray, unclosed
 use Rattle.vrl_token.proofs.SegmentLemmas.{closed_not_unclosed}
 use Rattle.vrl_token.proofs.Only.{Lexed, fault, finish, first, piece, second}
 use Rattle.vrl_token.proofs.Unique.{digits_begin}
-use Rattle.vrl_token.proofs.Starts.{FreeWay, IsBangCall, IsSuffixed, NameWay, NumeralWay, RawWay, Start, StepsWay, TextWay, Way, WayOf, ampersand, blank, digit, dot, keyword_of, letter, only_start, percent, question, square, start_blank, start_digit, start_letter, start_of, start_stray, stray}
+use Rattle.vrl_token.proofs.Starts.{FreeWay, IsBangCall, IsSuffixed, NameWay, NumeralWay, RawWay, Start, StepsWay, TextWay, Way, WayOf, ampersand, blank, digit, dot, keyword_of, letter, only_start, percent, question, square, start_blank, start_digit, start_letter, start_of, start_stray, stray, token_of_parts}
 
 -- what the definitions say that the text begins with
 abbrev pub Reads : List Piece → List ℕ → Lexed → Type 0
@@ -175,8 +176,14 @@ metadata_way {before} {a} (b ∷ bs) {rest} segments walk way =
 
 -- ---- tokens
 
+template_of : (f : List ℕ) (hs : List Hole) → 0 < length hs → token.Template f hs ≡ token_of_parts f hs
+template_of f [] some = absurd (omega arith)
+template_of f (h ∷ hs) some = refl
+
 token_started : (before : List Piece) (t : Token) (text rest : List ℕ) → BeginsWithToken before t text rest → Started before text (piece (Word t) rest)
-token_started before (token.Text v) text rest is = text_way is.1 (first is.2 (second (λ has. is.4 (subst HasTemplate (sym is.3) has)) (ap (λ s. piece (Word (token.Text s)) rest) is.3)))
+token_started before (token.Text v) text rest is = text_way is.1 (first is.2 (first (v, [], is.3) (record { value = (v, []); cut = is.3; gives = refl })))
+token_started before (token.Template f hs) text rest is =
+    text_way is.1 (first is.2 (first (f, hs, is.3) (record { value = (f, hs); cut = is.3; gives = ap (λ t. piece (Word t) rest) (template_of f hs is.4) })))
 token_started before (token.RawText v) text rest is = raw_way 115 (inl refl) is.1 (first refl (ap (λ s. piece (Word (token.RawText s)) rest) is.2))
 token_started before (token.Regex v) text rest is = raw_way 114 (inr (inl refl)) is.1 (second (λ h. omega (arith, h)) (first refl (first is.3 (ap (λ s. piece (Word (token.Regex s)) rest) is.2))))
 token_started before (token.Timestamp m) text rest is = raw_way 116 (inr (inr refl)) is.1 (second (λ h. omega (arith, h)) (second (λ h. omega (arith, h)) (first (m, is.2) (record { value = m; cut = is.2; gives = refl }))))
@@ -262,7 +269,7 @@ fault_started (unclosed_text behind parts un none code) = at 34 behind parts (fi
 fault_started (unclosed_raw b behind raw parts un none code) =
     at_start letter b (39 ∷ behind) parts (raw_letter_starts b raw) (first (raw, refl) (record { value = behind; cut = refl; gives = first un (same_fault code none) }))
 fault_started (unknown_escape cs is bad code) = text_way is (second bad (same_fault code refl))
-fault_started (template cs is known has code) = text_way is (first known (first has (same_fault code refl)))
+fault_started (template cs is known malformed code) = text_way is (first known (second malformed (same_fault code refl)))
 fault_started (many_regexes cs is many code) = raw_way 114 (inr (inl refl)) is (second (λ h. omega (arith, h)) (first refl (second (λ h. omega (arith, h, many)) (same_fault code refl))))
 fault_started (no_moment cs is none code) = raw_way 116 (inr (inr refl)) is (second (λ h. omega (arith, h)) (second (λ h. omega (arith, h)) (second (λ h. none h.0 h.1) (same_fault code refl))))
 fault_started {before} {text} {rest} (float negative digits behind may is tail code) = numeral_way negative may is (first (rest, tail) (record { value = rest; cut = tail; gives = same_fault code refl }))

@@ -4,12 +4,7 @@ use Rattle.std.proofs.lemmas.Bool.Decides.{eqb_tells}
 use Rattle.vrl_token.specs.Scan.{HasNoByte}
 use Rattle.vrl_token.specs.Quoted.{RawPair}
 use Rattle.std.specs.List.{AllByRecursion}
-use Rattle.vrl_token.specs.Characters.{Character, IsEscape, IsInside, IsKnown, escape_of, escaped, plain, raw_of, spelling_of, text_of}
-
--- bytes that stand for themselves
-abbrev pub plains : List ℕ → List Character
-plains [] = []
-plains (b ∷ bs) = plain b ∷ plains bs
+use Rattle.vrl_token.specs.Characters.{Character, IsEscape, IsInside, IsKnown, escape_of, escaped, plain, plains, raw_of, spelling_of, text_of}
 
 -- the characters are plain ones, an escape and others
 pub record HasEscape (quote : ℕ) (characters : List Character) (before behind : List ℕ) : Type 0 where

@@ -40,7 +40,7 @@ fault_code : {before : List Piece} {text rest : List ℕ} {code : ℕ} → IsFau
 fault_code (unclosed_text behind opens un none code) = is_203 code
 fault_code (unclosed_raw letter behind is opens un none code) = is_203 code
 fault_code (unknown_escape cs is bad code) = is_203 code
-fault_code (template cs is known has code) = is_1016 code
+fault_code (template cs is known malformed code) = is_1016 code
 fault_code (many_regexes cs is many code) = is_1016 code
 fault_code (no_moment cs is none code) = is_1014 code
 fault_code (float negative digits behind may is tail code) = is_1001 code

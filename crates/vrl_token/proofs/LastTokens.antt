@@ -14,6 +14,7 @@ pub record Agrees (tokens : List Token) : Type 0 where
 
 agrees_at : (t : Token) (ts : List Token) → Agrees (t ∷ ts)
 agrees_at (token.Text s) ts = record { wants = refl; goes = refl; arrow = refl; block = refl }
+agrees_at (token.Template s hs) ts = record { wants = refl; goes = refl; arrow = refl; block = refl }
 agrees_at (token.RawText s) ts = record { wants = refl; goes = refl; arrow = refl; block = refl }
 agrees_at (token.Regex s) ts = record { wants = refl; goes = refl; arrow = refl; block = refl }
 agrees_at (token.Timestamp m) ts = record { wants = refl; goes = refl; arrow = refl; block = refl }

@@ -7,13 +7,18 @@ mod Ends
 mod Escapes
 mod FaultCodes
 mod Floats
+mod Keywords
 mod LastTokens
 mod Leading
 mod Nestings
 mod Only
+mod Opened
 mod OpenBrackets
 mod Tested
+mod Parted
+mod Parting
 mod PathCuts
+pub mod HolePlaces
 pub mod Placed
 mod Quotes
 mod Readied

@@ -9,8 +9,9 @@ use Rattle.vrl_token.specs.declared.token.Spanned.{Spanned}
 use Rattle.vrl_token.specs.declared.token.Token.{Token}
 use Rattle.vrl_token.specs.Depths.{AreCounts, IsProgress, behind_first, first_of, held, nesting_behind, nesting_inside, nestings_of}
 use Rattle.vrl_token.specs.Brackets.{closes}
-use Rattle.vrl_token.specs.Nesting.{IsDeepAt, IsTooDeep, count_in, nesting_in, opens, parts, stretches_behind, stretches_from, with_innermost, without_innermost}
+use Rattle.vrl_token.specs.Nesting.{IsDeepAt, IsTooDeep, count_in, last_nesting, nesting_in, opens, parts, stretches_behind, stretches_from, with_innermost, without_innermost}
 use Rattle.vrl_token.specs.Reading.{backwards}
+use Rattle.vrl_token.proofs.Runs.{heads}
 
 held_nesting : (m c n : ℕ) → min (c + (1 + n)) m ≡ min (min (min n m + 1) m + min c m) m
 held_nesting m c n = omega arith
@@ -44,6 +45,18 @@ nestings_more all before t old new nesting count counted was behind from =
     from ∙ ap (λ (v : ℕ). stretches_from t v old) (behind ∙ ap (λ (k : ℕ). nesting_behind t k old) counted)
     ∙ ap (λ (l : List ℕ). stretches_from t (nesting_behind t (held (count_in (suc (length before)) all)) l) l) was
     ∙ sym (nestings_by all (opens t) (closes t) (parts t) (suc (length before)) (stretches_behind before))
+
+innermost_nesting : (all : List Token) (rs : List ℕ) (n : ℕ) (ns : List ℕ) → n ∷ ns ≡ nestings_of all rs → n ≡ held (nesting_in all rs)
+innermost_nesting all [] n ns is = cc
+innermost_nesting all (r ∷ rs) n ns is = heads is
+
+held_both : (m a b : ℕ) → min (min a m + min b m) m ≡ min (a + b) m
+held_both m a b = omega arith
+
+pub depth_is : (all before : List Token) (progress : Progress) (depth : ℕ) → IsProgress all before progress → depth ≡ held (progress.nestings.innermost + progress.last) → depth ≡ held (nesting_in all (stretches_behind before) + last_nesting before)
+depth_is all before progress depth is sum =
+    let nesting = innermost_nesting all (stretches_behind before) progress.nestings.innermost (reverse progress.nestings.around.items) is.nestings_are in
+    sum ∙ ap (λ (n : ℕ). held (n + progress.last)) nesting ∙ ap (λ (n : ℕ). held (held (nesting_in all (stretches_behind before)) + n)) is.last_is ∙ held_both _ (nesting_in all (stretches_behind before)) (last_nesting before)
 
 -- ---- the tokens before a place
 

@@ -32,7 +32,7 @@ pub record IsScanned (quote : ℕ) (text : List ℕ) (place : ℕ) (pending : Bo
 pub scanned_none : (quote : ℕ) (text : List ℕ) → IsScanned quote text 0 false
 scanned_none quote text = record { characters = []; inside = tt; parts = refl }
 
-one_more : (text : List ℕ) (place next b : ℕ) (front : List ℕ) → next ≡ place + 1 → place < length text → get_or text place 0 ≡ b → take place text ≡ front → take next text ≡ front ++ b ∷ []
+pub one_more : (text : List ℕ) (place next b : ℕ) (front : List ℕ) → next ≡ place + 1 → place < length text → get_or text place 0 ≡ b → take place text ≡ front → take next text ≡ front ++ b ∷ []
 one_more text place next b front is below byte before =
     rw (is, add-one) (take-suc text place 0 below ∙ ap (λ t. t ++ get_or text place 0 ∷ []) before ∙ ap (λ x. front ++ x ∷ []) byte)
 

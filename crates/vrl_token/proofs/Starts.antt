@@ -12,7 +12,9 @@ use Rattle.vrl_token.specs.declared.piece.Piece.TheVariants.{Blank, Comment, New
 use Rattle.vrl_token.specs.declared.token.Token.{Token}
 use Rattle.vrl_token.specs.declared.token.Token.TheVariants as token
 use Rattle.vrl_token.specs.Lexical.{BeginsInside, BeginsOutside, IsBlank, IsDigit, IsLongestRun, IsNameStart, keywords}
-use Rattle.vrl_token.specs.Characters.{Character, HasTemplate, IsKnown, IsQuoted, IsUnclosed, raw_of, text_of}
+use Rattle.vrl_token.specs.Characters.{Character, IsKnown, IsQuoted, IsUnclosed, raw_of}
+use Rattle.vrl_token.specs.Templates.{IsParted, IsWellFormed}
+use Rattle.vrl_token.specs.declared.token.Hole.{Hole}
 use Rattle.vrl_token.specs.Numbers.{IsFloat, IsNumber, IsNumeral}
 use Rattle.vrl_token.specs.Paths.{IsInRange, IsReadable, RootSegments, Segment, Segments, steps_of}
 use Rattle.vrl_token.specs.Context.{closes_before, operand_before, regexes_before}
@@ -20,6 +22,7 @@ use Rattle.vrl_token.specs.Words.{BeginsRaw, BeginsWith, IsNameRun, NoSegment}
 use Rattle.vrl_token.specs.Faults.{IsContinuation, IsStart}
 use Rattle.vrl_token.proofs.Runs.{same_longest_run}
 use Rattle.vrl_token.proofs.Only.{Branch, Is, OnlyOne, Lexed, With, fault, finish, only_branch, only_is, only_with, piece, same_pair}
+use Rattle.vrl_token.proofs.Parting.{same_parted}
 use Rattle.vrl_token.proofs.Unique.{same_float, same_numeral, same_quoted, same_root, same_segments, tails}
 
 abbrev word : Token → List ℕ → Lexed
@@ -27,8 +30,16 @@ word t rest = piece (Word t) rest
 
 -- ---- texts
 
+-- the token of a text, from its first part and its variables
+abbrev pub token_of_parts : List ℕ → List Hole → Token
+token_of_parts first [] = token.Text first
+token_of_parts first (hole ∷ holes) = token.Template first (hole ∷ holes)
+
+abbrev pub PartedWay : List Character → List ℕ → Lexed → Type 0
+PartedWay cs rest = With (List ℕ × List Hole) (λ p. IsParted cs p.0 p.1) (λ p. Is (word (token_of_parts p.0 p.1) rest))
+
 abbrev pub TextWay : List Character → List ℕ → Lexed → Type 0
-TextWay cs rest = Branch (AllByRecursion IsKnown cs) (Branch (HasTemplate (text_of cs)) (Is (fault 1016 rest)) (Is (word (token.Text (text_of cs)) rest))) (Is (fault 203 rest))
+TextWay cs rest = Branch (AllByRecursion IsKnown cs) (Branch (IsWellFormed cs) (PartedWay cs rest) (Is (fault 1016 rest))) (Is (fault 203 rest))
 
 abbrev pub QuoteWay : List ℕ → Lexed → Type 0
 QuoteWay behind = Branch (IsUnclosed 34 behind) (Is (fault 203 [])) (With (List Character × List ℕ) (λ c. IsQuoted 34 behind c.0 c.1) (λ c. TextWay c.0 c.1))
@@ -36,8 +47,11 @@ QuoteWay behind = Branch (IsUnclosed 34 behind) (Is (fault 203 [])) (With (List 
 only_quoted : (quote : ℕ) (behind : List ℕ) → quote ≢ 92 → (c d : List Character × List ℕ) → IsQuoted quote behind c.0 c.1 → IsQuoted quote behind d.0 d.1 → c ≡ d
 only_quoted quote behind other c d one two = let same = same_quoted other one two in same_pair c d same.0 same.1
 
+only_parted : (cs : List Character) (p q : List ℕ × List Hole) → IsParted cs p.0 p.1 → IsParted cs q.0 q.1 → p ≡ q
+only_parted cs p q one two = let same = same_parted cs p.0 q.0 p.1 q.1 one two in same_pair p q same.0 same.1
+
 only_text : (c : List Character × List ℕ) → OnlyOne (TextWay c.0 c.1)
-only_text c = only_branch _ _ _ (only_branch _ _ _ (only_is _) (only_is _)) (only_is _)
+only_text c = only_branch _ _ _ (only_branch _ _ _ (only_with _ _ _ (only_parted c.0) (λ p. only_is _)) (only_is _)) (only_is _)
 
 only_quote : (behind : List ℕ) → OnlyOne (QuoteWay behind)
 only_quote behind = only_branch _ _ _ (only_is _) (only_with _ _ _ (only_quoted 34 behind (λ h. omega (arith, h))) only_text)

@@ -67,6 +67,7 @@ root_takes sign (s ∷ ss) text rest walk =
 
 token_takes : (before : List Piece) (t : Token) (text rest : List ℕ) → BeginsWithToken before t text rest → Takes text rest
 token_takes before (token.Text v) text rest is = text_takes is.1
+token_takes before (token.Template f hs) text rest is = text_takes is.1
 token_takes before (token.RawText v) text rest is = raw_takes is.1
 token_takes before (token.Regex v) text rest is = raw_takes is.1
 token_takes before (token.Timestamp m) text rest is = raw_takes is.1
@@ -132,7 +133,7 @@ pub fault_end : {before : List Piece} {text rest : List ℕ} {code : ℕ} → Is
 fault_end {before} {text} (unclosed_text behind opens un none code) = all_taken text none
 fault_end {before} {text} (unclosed_raw letter behind is opens un none code) = all_taken text none
 fault_end (unknown_escape cs is bad code) = is_end (text_takes is)
-fault_end (template cs is known has code) = is_end (text_takes is)
+fault_end (template cs is known malformed code) = is_end (text_takes is)
 fault_end (many_regexes cs is many code) = is_end (raw_takes is)
 fault_end (no_moment cs is none code) = is_end (raw_takes is)
 fault_end (float negative digits behind may is tail code) = ends_on (is_end (numeral_takes is)) (float_end behind _ tail)

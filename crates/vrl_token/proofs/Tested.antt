@@ -3,6 +3,7 @@ use Rattle.std.proofs.Common.{◌≡◌, ℕ, ◌<◌, ◌==◌, Bool, true, fal
 use Rattle.std.proofs.lemmas.Bool.Decides.{eqb_tells}
 use Rattle.vrl_token.specs.Lexical.{BeginsInside, BeginsOutside, IsLongestRun, IsName, IsNamePart, IsNameStart}
 use Rattle.std.specs.Bool.{then_some}
+use Rattle.std.specs.Option.{is_some}
 
 -- a value that is there where the test holds
 pub chosen : {X P none : Type 0} (Q : X → Type 0) (x : X) (test : Bool) → (IsTrue test ↔ P) → (P → Q x) → (¬ P → none) → MatchOption (then_some test x) none Q
@@ -13,6 +14,11 @@ chosen Q x false says found missing = missing (λ p. let wrong = says.1 p in cc)
 pub weaker : {X none other : Type 0} {P Q : X → Type 0} (found : Option X) → (none → other) → ((x : X) → P x → Q x) → MatchOption found none P → MatchOption found other Q
 weaker None missing each h = missing h
 weaker (Some x) missing each h = each x h
+
+-- whether a value is there
+pub found_is : {X P : Type 0} {Q : X → Type 0} (found : Option X) → ((x : X) → Q x → P) → MatchOption found (¬ P) Q → IsTrue (is_some found) ↔ P
+found_is None each none = (λ wrong. cc, λ p. absurd (none p))
+found_is (Some x) each some = (λ _. each x some, λ _. refl)
 
 -- what a test says where its outcome is known
 pub passes : {P : Type 0} {test : Bool} → (IsTrue test ↔ P) → test ≡ true → P
@@ -53,7 +59,7 @@ pub option_weaker : {X none other : Type 0} {P Q : X → Type 0} (found : Option
 option_weaker None missing each h = missing h
 option_weaker (Some x) missing each h = each x h
 
-start_is_part : (b : ℕ) → IsNameStart b → IsNamePart b
+pub start_is_part : (b : ℕ) → IsNameStart b → IsNamePart b
 start_is_part b start = elim start [ inl letter ↦ inl letter | inr mark ↦ inr (inr mark) ]
 
 -- a run that begins as a name does is a name

@@ -94,6 +94,7 @@ is_close_brace _ = false
 
 abbrev pub is_text : Piece → Bool
 is_text (Word (token.Text s)) = true
+is_text (Word (token.Template s holes)) = true
 is_text _ = false
 
 abbrev pub is_colon : Piece → Bool

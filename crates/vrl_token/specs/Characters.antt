@@ -12,6 +12,11 @@ spelling_of [] = []
 spelling_of (plain b ∷ cs) = b ∷ spelling_of cs
 spelling_of (escaped b ∷ cs) = 92 ∷ b ∷ spelling_of cs
 
+-- bytes that stand for themselves
+abbrev pub plains : List ℕ → List Character
+plains [] = []
+plains (b ∷ bs) = plain b ∷ plains bs
+
 -- The character may stand between these quotes: neither the quote nor a backslash stands there for
 -- itself.
 abbrev pub IsInside : ℕ → Character → Type 0
@@ -31,11 +36,12 @@ pub record IsUnclosed (quote : ℕ) (text : List ℕ) : Type 0 where
 
 -- ---- texts and quoted fields
 
--- `\n`, `\r`, `\t`, `\\`, `\"`, `\'` and `\0`
+-- `\n`, `\r`, `\t`, `\\`, `\"`, `\'`, `\0` and `\{`
 abbrev pub IsEscape : ℕ → Type 0
 IsEscape b = (b ≡ 110) ⊎ (b ≡ 114) ⊎ (b ≡ 116) ⊎ (b ≡ 92) ⊎ (b ≡ 34) ⊎ (b ≡ 39) ⊎ (b ≡ 48)
+    ⊎ (b ≡ 123)
 
--- what the byte behind a backslash stands for: a backslash and the quotes stand for themselves
+-- what the byte behind a backslash stands for: a backslash, a quote and `{` stand for themselves
 abbrev pub escape_of : ℕ → ℕ
 escape_of b = if b == 110 then 10 else if b == 114 then 13 else if b == 116 then 9 else if b == 48 then 0 else b
 
@@ -55,11 +61,3 @@ abbrev pub raw_of : List Character → List ℕ
 raw_of [] = []
 raw_of (plain b ∷ cs) = b ∷ raw_of cs
 raw_of (escaped b ∷ cs) = (if b == 39 then 39 ∷ [] else 92 ∷ b ∷ []) ++ raw_of cs
-
--- ---- templates
-
--- the text has `{{` in it
-pub record HasTemplate (text : List ℕ) : Type 0 where
-  pub before : List ℕ
-  pub behind : List ℕ
-  pub parts : text ≡ before ++ 123 ∷ 123 ∷ behind

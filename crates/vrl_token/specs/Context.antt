@@ -10,6 +10,7 @@ use Rattle.vrl_token.specs.declared.token.Token.TheVariants as token
 abbrev pub ends_operand : Token → Bool
 ends_operand (token.Number n) = true
 ends_operand (token.Text s) = true
+ends_operand (token.Template s holes) = true
 ends_operand (token.RawText s) = true
 ends_operand (token.Regex s) = true
 ends_operand (token.Timestamp m) = true

@@ -4,7 +4,7 @@ use Rattle.vrl_token.specs.declared.token.Token.{Token}
 use Rattle.vrl_token.specs.declared.nesting.Progress.{Progress}
 use Rattle.vrl_token.specs.declared.nesting.Stretches.{Stretches}
 use Rattle.vrl_token.specs.declared.nesting.Tally.{Tally}
-use Rattle.vrl_token.specs.Nesting.{count_in, is_counted, nesting_in, opens, stretches_behind}
+use Rattle.vrl_token.specs.Nesting.{count_in, is_counted, last_nesting, nesting_in, opens, stretches_behind}
 use Rattle.vrl_token.specs.Telling.{IsBefore}
 
 -- a number as a word of 64 bits holds it: the largest stands for all that are larger
@@ -57,4 +57,5 @@ nestings_of all (s ∷ rs) = held (nesting_in all (s ∷ rs)) ∷ nestings_of al
 -- the nestings of the stretches behind these of all the tokens, and what these say
 pub record IsProgress (all before : List Token) (progress : Progress) : Type 0 where
   pub nestings_are : numbers_of progress.nestings ≡ nestings_of all (stretches_behind before)
+  pub last_is : progress.last ≡ held (last_nesting before)
   pub is_before : IsBefore before progress.before

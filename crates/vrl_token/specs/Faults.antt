@@ -5,7 +5,8 @@ use Rattle.vrl_diag.specs.Rendering.{is_continuation}
 use Rattle.vrl_value.specs.Rfc3339.{IsReading}
 use Rattle.vrl_token.specs.declared.piece.Piece.{Piece}
 use Rattle.vrl_token.specs.Lexical.{BeginsInside, BeginsOutside, IsBlank, IsDigit, IsLongestRun, IsNameStart}
-use Rattle.vrl_token.specs.Characters.{Character, HasTemplate, IsKnown, IsUnclosed, raw_of, text_of}
+use Rattle.vrl_token.specs.Characters.{Character, IsKnown, IsUnclosed, raw_of}
+use Rattle.vrl_token.specs.Templates.{IsWellFormed}
 use Rattle.vrl_token.specs.Numbers.{IsFloat, IsNumber, IsNumeral}
 use Rattle.vrl_token.specs.Paths.{HasFlaw, RootSegments, Segment, Segments}
 use Rattle.vrl_token.specs.Context.{closes_before, regexes_before}
@@ -50,9 +51,9 @@ pub data IsFault (before : List Piece) (text : List ℕ) (code : ℕ) (rest : Li
   -- a text with an escape that isn't known
   unknown_escape : (characters : List Character) → IsTextSpelling text characters rest
       → ¬ AllByRecursion IsKnown characters → code ≡ 203 → IsFault before text code rest
-  -- a text with `{{`
+  -- a text with a malformed template
   template : (characters : List Character) → IsTextSpelling text characters rest → AllByRecursion IsKnown characters
-      → HasTemplate (text_of characters) → code ≡ 1016 → IsFault before text code rest
+      → ¬ IsWellFormed characters → code ≡ 1016 → IsFault before text code rest
   -- a regex literal behind 256 others
   many_regexes : (characters : List Character) → IsRaw 114 text characters rest → 256 ≤ regexes_before before
       → code ≡ 1016 → IsFault before text code rest

@@ -1,5 +1,6 @@
 pub mod Lexical
 pub mod Characters
+pub mod Templates
 pub mod Numbers
 pub mod Paths
 pub mod Scan
@@ -10,6 +11,7 @@ pub mod Gathering
 pub mod Cuts
 pub mod Context
 pub mod Words
+pub mod Openings
 pub mod Pieces
 pub mod Faults
 pub mod Division

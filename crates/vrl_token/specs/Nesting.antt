@@ -1,6 +1,6 @@
 -- How deep tokens are nested. Tokens are listed from the last one on, so that the tokens before a
 -- place are the end of such a list.
-use Rattle.std.specs.Prelude.{◌≡◌, ℕ, ◌+◌, ◌<◌, ◌==◌, ◌⊎◌, Bool, true, false, ◌&&◌, if◌then◌else◌, List, [], ◌∷◌, ◌++◌, length}
+use Rattle.std.specs.Prelude.{◌≡◌, ℕ, ◌+◌, ◌*◌, ◌<◌, ◌==◌, ◌⊎◌, Bool, true, false, ◌&&◌, if◌then◌else◌, List, [], ◌∷◌, ◌++◌, length}
 use Rattle.vrl_token.specs.declared.token.Token.{Token}
 use Rattle.vrl_token.specs.declared.token.Token.TheVariants as token
 use Rattle.std.specs.Option.{is_some}
@@ -80,10 +80,22 @@ nesting_in all [] = 0
 nesting_in all (s ∷ []) = count_in s all
 nesting_in all (s ∷ r ∷ rs) = count_in s all + (1 + nesting_in all (r ∷ rs))
 
--- behind these of all the tokens a nesting is over 64, or more than four bodies of closures are
--- open
+-- how deep the syntax tree of one token is nested: that of a text with n variables as a pair of
+-- brackets with 2n signs `+` in it
+abbrev pub own_nesting : Token → ℕ
+own_nesting (token.Template first holes) = 1 + 2 * length holes
+own_nesting _ = 0
+
+-- the same of the last of the tokens
+abbrev pub last_nesting : List Token → ℕ
+last_nesting [] = 0
+last_nesting (t ∷ ts) = own_nesting t
+
+-- behind these of all the tokens, or in the last one, a nesting is over 64, or more than four
+-- bodies of closures are open
 abbrev pub IsDeepAt : List Token → List Token → Type 0
-IsDeepAt all before = (64 < nesting_in all (stretches_behind before)) ⊎ (4 < bodies_in (open_behind before))
+IsDeepAt all before =
+    (64 < nesting_in all (stretches_behind before) + last_nesting before) ⊎ (4 < bodies_in (open_behind before))
 
 -- at some place tokens are nested too deeply
 pub record IsTooDeep (all : List Token) : Type 0 where

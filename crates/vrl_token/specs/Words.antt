@@ -1,13 +1,14 @@
 -- The spellings of tokens: how a text that begins with a token goes on. No spelling could be
 -- longer.
-use Rattle.std.specs.Prelude.{◌≡◌, ℕ, ◌<◌, ◌⊎◌, Bool, true, false, Contains, List, [], ◌∷◌, codes}
+use Rattle.std.specs.Prelude.{◌≡◌, ℕ, ◌<◌, ◌⊎◌, Bool, true, false, Contains, List, [], ◌∷◌, codes, length}
 use Rattle.std.specs.List.{AllByRecursion}
 use Rattle.vrl_value.specs.Rfc3339.{IsReading}
 use Rattle.vrl_token.specs.declared.piece.Piece.{Piece}
 use Rattle.vrl_token.specs.declared.token.Token.{Token}
 use Rattle.vrl_token.specs.declared.token.Token.TheVariants as token
 use Rattle.vrl_token.specs.Lexical.{BeginsInside, BeginsOutside, IsDigit, IsLongestRun, IsName, IsNamePart, IsNameStart, keywords}
-use Rattle.vrl_token.specs.Characters.{Character, HasTemplate, IsKnown, IsQuoted, raw_of, text_of}
+use Rattle.vrl_token.specs.Characters.{Character, IsKnown, IsQuoted, raw_of}
+use Rattle.vrl_token.specs.Templates.{IsParted}
 use Rattle.vrl_token.specs.Numbers.{IsFloat, IsNumber, IsNumeral}
 use Rattle.vrl_token.specs.Paths.{BeginsDotted, HasSteps, RootSegments, Segment, Segments}
 use Rattle.vrl_token.specs.Context.{closes_before, operand_before, regexes_before}
@@ -84,8 +85,10 @@ IsNonempty (segment ∷ segments) = Unit {0}
 -- the text is this token behind the pieces before it, as long as it can be, and a rest
 abbrev pub BeginsWithToken : List Piece → Token → List ℕ → List ℕ → Type 0
 BeginsWithToken before (token.Text value) text rest = (characters : List Character)
-    × IsTextSpelling text characters rest × AllByRecursion IsKnown characters × (value ≡ text_of characters)
-    × ¬ HasTemplate value
+    × IsTextSpelling text characters rest × AllByRecursion IsKnown characters × IsParted characters value []
+BeginsWithToken before (token.Template first holes) text rest = (characters : List Character)
+    × IsTextSpelling text characters rest × AllByRecursion IsKnown characters × IsParted characters first holes
+    × (0 < length holes)
 BeginsWithToken before (token.RawText value) text rest =
     (characters : List Character) × IsRaw 115 text characters rest × (value ≡ raw_of characters)
 BeginsWithToken before (token.Regex source) text rest = (characters : List Character) × IsRaw 114 text characters rest

@@ -70,7 +70,7 @@ impl Ahead {
             ),
             object: match token {
                 Token::CloseBrace => true,
-                Token::Text(_) => self.colon,
+                Token::Text(_) | Token::Template(_, _) => self.colon,
                 _ => false,
             },
             colon: matches!(token, Token::Colon),

@@ -29,6 +29,7 @@ pub(crate) fn ends_with_operand(token: &Token) -> bool
         token,
         Token::Number(_)
             | Token::Text(_)
+            | Token::Template(_, _)
             | Token::RawText(_)
             | Token::Regex(_)
             | Token::Timestamp(_)

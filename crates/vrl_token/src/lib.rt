@@ -3,7 +3,8 @@
 //!
 //! Files: `reading.rt` (`script_text`, `tokens`) calls `lexer.rt`, which cuts a text into pieces
 //! (`piece.rt`): `cut.rt`, with `literals.rt`, `names.rt` and `signs.rt` over `scan.rt`,
-//! `number.rt`, `quoted.rt`, `segment.rt` and `path.rt`, and what stands before in `context.rt`.
+//! `number.rt`, `quoted.rt`, `template.rt`, `segment.rt` and `path.rt`, and what stands before in
+//! `context.rt`.
 //! Then `telling.rt` says what braces, bars and newlines are, by what stands behind (`ahead.rt`)
 //! and before (`before.rt`, with the open brackets of `bracket.rt`), and `nesting.rt` how deep
 //! tokens are nested. `token.rt` has the tokens, `fault.rt` why there are none, and `laws.rt` that
@@ -30,9 +31,10 @@ mod scan;
 mod segment;
 mod signs;
 mod telling;
+mod template;
 mod token;
 
 pub use fault::SyntaxFault;
 pub use laws::tokens_are_determined;
 pub use reading::{SCRIPT_LIMIT, script_text, tokens};
-pub use token::{Spanned, Token, Tokens};
+pub use token::{Hole, Holes, Spanned, Token, Tokens};

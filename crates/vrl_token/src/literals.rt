@@ -1,10 +1,11 @@
-ghost use Rattle.std.specs.Prelude.{◌≡◌, ◌-◌, ◌↔◌, ◌∷◌, ℕ, List, IfOk, IsTrue, MatchOption};
-ghost use Rattle.vrl_token.specs.Characters.{Character, HasTemplate, IsKnown, raw_of, text_of};
+ghost use Rattle.std.specs.Prelude.{◌≡◌, ◌-◌, ◌∷◌, ℕ, List, IfOk, MatchOption};
+ghost use Rattle.vrl_token.specs.Characters.{Character, IsKnown, raw_of, text_of};
 ghost use Rattle.std.specs.List.{AllByRecursion};
 ghost use Rattle.vrl_token.specs.Context.{regexes_before};
 ghost use Rattle.vrl_token.specs.Cuts.{IsCutOf};
 ghost use Rattle.vrl_token.specs.Lexical.{BeginsInside, IsDigit};
 ghost use Rattle.vrl_token.specs.Numbers.{IsBehindSign};
+ghost use Rattle.vrl_token.specs.Templates.{IsWellFormed};
 ghost use Rattle.vrl_token.specs.Words.{IsRaw, IsRawLetter, IsTextSpelling, MayHaveSign};
 ghost use Rattle.vrl_token.specs.declared.piece.Piece.{Piece as SpecPiece};
 
@@ -13,6 +14,7 @@ use crate::number::{behind_float, number_of, split_digits};
 use crate::piece::Piece;
 use crate::quoted::{raw, split_quoted, unescaped};
 use crate::scan::{Class, begins_in};
+use crate::template::text_token;
 use crate::token::Token;
 use std::alloc::Global;
 use vrl_diag::code;
@@ -25,38 +27,18 @@ fn token(token: Token, rest: &str) -> Cut<'_>
     Cut::Piece(Piece::Word(token), rest)
 }
 
-// Whether a text has `{{` in it.
-fn has_template(text: &str) -> bool
-    ensures { IsTrue result ↔ HasTemplate text.now }
-{
-    match text.split_once("{{") {
-        Some(_) => true,
-        None => false,
-    }
-}
-
-// The token of what stands between the quotes of a text, or that it has a template.
-fn cut_escaped(text: Chars, rest: &str) -> Cut<'_>
-    ensures { (before : List SpecPiece) (opening : List ℕ) (characters : List Character)
-        → IsTextSpelling opening characters rest.now → AllByRecursion IsKnown characters → text ≡ text_of characters
-        → IsCutOf before opening result }
-{
-    if has_template(text.as_str()) {
-        return Cut::Fault(code::TEMPLATE_OR_TOO_MANY_REGEXES, rest.len());
-    }
-    token(Token::Text(text), rest)
-}
-
-// The same where the text was read, or that it has an escape that isn't known.
-fn cut_read(text: Option<Chars>, rest: &str) -> Cut<'_>
+// What is wrong with a text that has no token: an escape that isn't known where it can't be read,
+// else a malformed template.
+fn text_fault<'a>(read: &Option<Chars>, rest: &'a str) -> Cut<'a>
     ensures { (before : List SpecPiece) (opening : List ℕ) (characters : List Character)
         → IsTextSpelling opening characters rest.now
-        → MatchOption text (¬ AllByRecursion IsKnown characters) (λ t. AllByRecursion IsKnown characters
+        → (AllByRecursion IsKnown characters → ¬ IsWellFormed characters)
+        → MatchOption read.now (¬ AllByRecursion IsKnown characters) (λ t. AllByRecursion IsKnown characters
         × (t ≡ text_of characters)) → IsCutOf before opening result }
 {
-    match text {
+    match read {
         None => Cut::Fault(code::UNRECOGNIZED_TOKEN, rest.len()),
-        Some(text) => cut_escaped(text, rest),
+        Some(_) => Cut::Fault(code::TEMPLATE_OR_TOO_MANY_REGEXES, rest.len()),
     }
 }
 
@@ -67,7 +49,10 @@ pub(crate) fn cut_text(alloc: Global, behind: &str) -> Result<Cut<'_>, Memory>
     let Some((inner, rest)) = split_quoted(behind, b'"') else {
         return Ok(Cut::Fault(code::UNRECOGNIZED_TOKEN, 0));
     };
-    Ok(cut_read(unescaped(alloc, inner)?, rest))
+    match text_token(alloc, inner)? {
+        Some(found) => Ok(token(found, rest)),
+        None => Ok(text_fault(&unescaped(alloc, inner)?, rest)),
+    }
 }
 
 // The token of what stands between the quotes of a raw text, a regex or a timestamp, which begins

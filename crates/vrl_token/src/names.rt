@@ -1,4 +1,4 @@
-ghost use Rattle.std.specs.Prelude.{◌≡◌, ◌∷◌, true, Contains, List, IfOk, MatchOption, ℕ};
+ghost use Rattle.std.specs.Prelude.{◌≡◌, ◌∷◌, ◌↔◌, true, Contains, IsTrue, List, IfOk, MatchOption, ℕ};
 ghost use Rattle.vrl_token.specs.Cuts.{IsContext, IsCutOf, IsKeyword, IsPathCut};
 ghost use Rattle.vrl_token.specs.Context.{closes_before};
 ghost use Rattle.vrl_token.specs.Lexical.{BeginsInside, IsNameStart, keywords};
@@ -30,6 +30,13 @@ fn keyword(name: &str) -> Option<Token>
         "null" => Some(Token::Null),
         _ => None,
     }
+}
+
+/// Whether a name is a keyword.
+pub(crate) fn is_keyword(name: &str) -> bool
+    ensures { IsTrue result ↔ Contains keywords name.now }
+{
+    keyword(name).is_some()
 }
 
 // The function whose name stands before a text. `None` where no call goes on with the text.

@@ -1,6 +1,6 @@
 ghost use Rattle.std.specs.Prelude.{◌≡◌, ◌↔◌, ◌+◌, ◌∷◌, [], IfOk, IsTrue, List, OnOk, get_or, length, reverse, set, suc};
 ghost use Rattle.vrl_token.specs.Depths.{AreCounts, IsProgress, IsTally, first_of, held, levels_of, nesting_behind, nesting_inside, numbers_of};
-ghost use Rattle.vrl_token.specs.Nesting.{IsDeepAt, IsTooDeep, count_in, is_counted, parts, stretches_from, without_innermost};
+ghost use Rattle.vrl_token.specs.Nesting.{IsDeepAt, IsTooDeep, count_in, is_counted, last_nesting, nesting_in, own_nesting, parts, stretches_behind, stretches_from, without_innermost};
 ghost use Rattle.vrl_token.specs.Reading.{backwards};
 ghost use Rattle.vrl_token.specs.declared.token.Token.{Token as SpecToken};
 
@@ -49,6 +49,16 @@ fn levels(token: &Token) -> usize
     ensures { result ≡ levels_of token.now }
 {
     if is_level(token) { 1 } else { 0 }
+}
+
+// How deep the syntax tree of a token is nested by itself.
+fn own_nesting(token: &Token) -> usize
+    ensures { result ≡ held (own_nesting token.now) }
+{
+    match token {
+        Token::Template(_, holes) => holes.as_slice().len().saturating_mul(2).saturating_add(1),
+        _ => 0,
+    }
 }
 
 // Whether a token stands between two stretches of one level.
@@ -231,6 +241,8 @@ fn counts_of(alloc: Global, tokens: &[Spanned]) -> Result<Vec<usize>, Memory>
 struct Progress {
     nestings: Stretches,
     before: Before,
+    // How deep the last of these tokens is nested by itself.
+    last: usize,
 }
 
 // Written out, so that it is let go by one call.
@@ -239,6 +251,7 @@ impl Drop for Progress {
         let Progress {
             nestings: _,
             before: _,
+            last: _,
         } = self;
     }
 }
@@ -251,6 +264,7 @@ impl Progress {
         Progress {
             nestings: Stretches::new(alloc, count),
             before: Before::start(alloc),
+            last: 0,
         }
     }
 
@@ -262,14 +276,23 @@ impl Progress {
         let nesting = self.nestings.nesting_behind(token, count);
         self.nestings.add(token, nesting)?;
         self.before.add(token)?;
+        self.last = own_nesting(token);
         Ok(())
+    }
+
+    // How deep the syntax tree is nested here and in the last token.
+    fn depth(&self) -> usize
+        ensures { (all before : List SpecToken) → IsProgress all before self.now
+            → result ≡ held (nesting_in all (stretches_behind before) + last_nesting before) }
+    {
+        self.nestings.innermost.saturating_add(self.last)
     }
 
     // Whether the tokens are nested too deeply here.
     fn is_deep(&self) -> bool
         ensures { (all before : List SpecToken) → IsProgress all before self.now → IsTrue result ↔ IsDeepAt all before }
     {
-        self.nestings.innermost > DEPTH || self.before.bodies() > BODIES
+        self.depth() > DEPTH || self.before.bodies() > BODIES
     }
 }
 

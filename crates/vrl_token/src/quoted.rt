@@ -55,6 +55,7 @@ fn escape(letter: u8) -> Option<&'static str>
         b'"' => Some("\""),
         b'\'' => Some("'"),
         b'0' => Some("\0"),
+        b'{' => Some("{"),
         _ => None,
     }
 }

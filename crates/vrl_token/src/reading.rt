@@ -55,8 +55,9 @@ pub fn script_text(bytes: &[u8]) -> Result<&str, Diagnostic>
 ///
 /// `Fault`: the first of its spellings that is at fault, by place: 203 for what is no spelling,
 /// 1001 for a float, 1002 for a number out of range, 1003 for an operator that is left out, 1014
-/// for a timestamp that RFC 3339 doesn't read, and 1016 for a template or a 257th regex literal;
-/// and where none is, 1008 for tokens that are nested too deeply. `Memory`: want of memory.
+/// for a timestamp that RFC 3339 doesn't read, and 1016 for a malformed template or a 257th regex
+/// literal; and where none is, 1008 for tokens that are nested too deeply. `Memory`: want of
+/// memory.
 pub fn tokens(alloc: Global, text: &str) -> Result<Tokens, SyntaxFault>
     requires { length text.now ≤ script_limit }
     ensures ok { IfOk result (λ found. IsTokenized text.now found.tokens) }

@@ -5,10 +5,64 @@ use vrl_diag::Span;
 use vrl_path::Path;
 use vrl_value::{Chars, Moment};
 
+/// A variable in a text, as `{{ name }}`, and the text behind it.
+#[derive(Drop)]
+pub struct Hole {
+    /// The name of the variable.
+    pub name: Chars,
+    /// How many bytes stand from the first one of the name to the end of the text's spelling, its
+    /// closing quote with it.
+    pub distance: usize,
+    /// The text up to the next variable or the end, with its escapes replaced by what they stand
+    /// for. It may be empty.
+    pub behind: Chars,
+}
+
+/// Variables in a text, in the order in which they stand. A contract sees their list.
+pub struct Holes {
+    holes: Vec<Hole>,
+}
+
+// Written out, so that variables are let go by one call.
+impl Drop for Holes {
+    fn drop(self) {
+        let Holes { holes: _ } = self;
+    }
+}
+
+impl Model for Holes {
+    ghost use Rattle.std.specs.Prelude.{List};
+    ghost use Rattle.vrl_token.specs.declared.token.Hole.{Hole};
+
+    ghost Value = { List Hole };
+
+    ghost view = { λ holes. holes.holes.items };
+}
+
+impl Holes {
+    /// These variables, which it keeps.
+    pub fn new(holes: Vec<Hole>) -> Holes
+        ensures { result ≡ holes.items }
+    {
+        Holes { holes }
+    }
+
+    /// The variables, borrowed.
+    pub fn as_slice(&self) -> &[Hole]
+        ensures { result.now ≡ self.now }
+    {
+        &self.holes
+    }
+}
+
 /// A token of a script, with what its spelling says.
 pub enum Token {
-    /// `".."`, with its escapes replaced by what they stand for.
+    /// `".."` without variables in it, with its escapes replaced by what they stand for.
     Text(Chars),
+    /// `".."` with variables in it, as `"a{{ n }}c"`: the text before the first one, and each
+    /// variable with the text behind it. The escapes of the texts are replaced by what they stand
+    /// for.
+    Template(Chars, Holes),
     /// `s'..'`, where `\'` is a quote and every other backslash stands for itself.
     RawText(Chars),
     /// `r'..'`, a regular expression: its source, in which `\'` is a quote and every other
@@ -112,6 +166,7 @@ impl Drop for Token {
     fn drop(self) {
         match self {
             Token::Text(_text) | Token::RawText(_text) | Token::Regex(_text) => {}
+            Token::Template(_first, _holes) => {}
             Token::Timestamp(_) | Token::Number(_) => {}
             Token::True | Token::False | Token::Null => {}
             Token::If | Token::Else | Token::Abort | Token::Return => {}

@@ -4,12 +4,14 @@ use Rattle.vrl_value.specs.Tree.{Tree, string, integer, boolean, null, timestamp
 use Rattle.vrl_path.specs.declared.path.Step.{Step}
 use Rattle.vrl_diag.specs.declared.diagnostic.Span.{Span}
 use Rattle.vrl_syntax.specs.Stores.{metadata}
+use Rattle.vrl_syntax.specs.Tree.{Expr, expr, literal, read, group, binary}
 use Rattle.vrl_syntax.specs.declared.root.Op.{Op}
 use Rattle.vrl_syntax.specs.declared.root.Op.TheVariants as op
 use Rattle.vrl_syntax.specs.declared.root.Root.{Root}
 use Rattle.vrl_syntax.specs.declared.root.Root.TheVariants as root
 use Rattle.vrl_syntax.specs.declared.root.Target.{Target}
 use Rattle.vrl_syntax.specs.declared.root.Target.TheVariants as target
+use Rattle.vrl_token.specs.declared.token.Hole.{Hole}
 use Rattle.vrl_token.specs.declared.token.Spanned.{Spanned}
 use Rattle.vrl_token.specs.declared.token.Token.{Token}
 use Rattle.vrl_token.specs.declared.token.Token.TheVariants as token
@@ -74,6 +76,38 @@ target_at t s = None
 
 abbrev pub target_of : Word → Option Target
 target_of w = target_at w.token w.span
+
+-- ---- texts with variables
+
+-- the place of a variable in a text: its name's, which begins so far before the end of the text
+abbrev pub hole_span : Span → Hole → Span
+hole_span s h = record { start = s.end - h.distance; end = s.end - (h.distance - length h.name) }
+
+-- a sum, a text and a group that stand at the place of the whole text
+abbrev pub sum_at : Span → Expr → Expr → Expr
+sum_at s l r = expr s (binary op.Plus l r)
+
+abbrev pub text_at : Span → List ℕ → Expr
+text_at s text = expr s (literal (string text))
+
+-- a sum, behind it a variable, and the text behind that
+abbrev pub with_hole : Span → Expr → Hole → Expr
+with_hole s sum h = sum_at s (sum_at s sum (expr (hole_span s h) (read (root.Name h.name) []))) (text_at s h.behind)
+
+abbrev pub with_holes : Span → Expr → List Hole → Expr
+with_holes s sum [] = sum
+with_holes s sum (h ∷ hs) = with_holes s (with_hole s sum h) hs
+
+-- a text with variables is the group of a sum: the text before the first one, each variable, and
+-- the text behind it
+abbrev pub template_at : Token → Span → Option Expr
+template_at (token.Template before holes) s = Some (expr s (group (with_holes s (text_at s before) holes)))
+template_at t s = None
+
+abbrev pub template_of : Word → Option Expr
+template_of w = template_at w.token w.span
+
+-- ---- functions
 
 -- the name of a function, and whether it has a bang
 abbrev pub function_of : Token → Option (List ℕ × Bool)

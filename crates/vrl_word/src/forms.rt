@@ -3,7 +3,7 @@ ghost use Rattle.std.specs.Prelude.{◌≡◌, IfOk, None, Some, option_map};
 ghost use Rattle.vrl_syntax.specs.Tree.{abort_with, array as array_form, assign, binary, block as block_form, both as both_form, call as call_form, closure as closure_form, conditional as conditional_form, expr, group as group_form, literal as literal_form, merge as merge_form, message, negation as negation_form, no_closure, object as object_form, query, read as read_form, return_of, span_of};
 ghost use Rattle.vrl_syntax.specs.View.{arg_of, args_of, arm_of, arms_of, else_of, expr_of, exprs_of, message_of, pairs_of};
 ghost use Rattle.vrl_value.specs.View.{tree_of};
-ghost use Rattle.vrl_word.specs.Words.{name_span as name_place, over as place_over};
+ghost use Rattle.vrl_word.specs.Words.{name_span as name_place, over as place_over, sum_at as sum_place};
 
 use crate::word::{name_span, over};
 use std::alloc::Global;
@@ -93,6 +93,16 @@ pub fn joined(alloc: Global, op: Op, left: Expr, right: Expr) -> Result<Expr, Me
     let left = Box::new(alloc, left)?;
     let right = Box::new(alloc, right)?;
     let form = Form::Binary(op, left, right);
+    Ok(Expr { span, form })
+}
+
+/// A sum, given its place, which is that of a text whose parts are added.
+pub fn sum(alloc: Global, span: Span, left: Expr, right: Expr) -> Result<Expr, Memory>
+    ensures { IfOk result (λ e. expr_of e ≡ sum_place span (expr_of left) (expr_of right)) }
+{
+    let left = Box::new(alloc, left)?;
+    let right = Box::new(alloc, right)?;
+    let form = Form::Binary(Op::Plus, left, right);
     Ok(Expr { span, form })
 }
 

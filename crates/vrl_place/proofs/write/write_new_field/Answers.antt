@@ -1,5 +1,4 @@
 use Rattle.std.proofs.Common.{[]}
-use Rattle.vrl_path.specs.Steps.{plain}
 use Rattle.vrl_value.specs.declared.value.Tag.TheVariants as tag
 use Rattle.vrl_kind.specs.Kinds.{tags_at}
 use Rattle.vrl_place.specs.Inner.{spot_sets}
@@ -11,5 +10,5 @@ put_field-requires c = alone_there (tags_at c.args.kind.now []) tag.Object c.req
 
 pub returns-clause-ok : goal.returns-clause-ok
 returns-clause-ok c =
-    written_others c.args.kind.now (tags_at c.args.new.now) (spot_sets c.other_fields.result) (tags_at c.in_ok-part.part) (tags_at c.put_field.new.self) (plain c.args.behind.now) c.args.name.now
+    written_others c.args.kind.now (tags_at c.args.new.now) (spot_sets c.other_fields.result) (tags_at c.in_ok-part.part) (tags_at c.put_field.new.self) c.args.behind.now c.args.name.now
     c.requires.alone c.requires.unknown c.other_fields.ensures c.in_ok-part.ensures c.in_ok-put_field.ensures.put

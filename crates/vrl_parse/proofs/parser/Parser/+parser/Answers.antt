@@ -299,6 +299,12 @@ operand-returns-in-Path-clause-takes t c = same_takes c.read.result _ _ (λ x h.
 pub operand-returns-in-Path-clause-refuses : goal.operand-returns-in-Path-clause-refuses
 operand-returns-in-Path-clause-refuses t c = same_refuses c.read.result _ _ (λ h. chosen c.in-Path.ensures h) c.read.ensures.refuses
 
+pub operand-returns-in-Template-clause-takes : goal.operand-returns-in-Template-clause-takes
+operand-returns-in-Template-clause-takes t c = same_takes c.summed.result _ _ (λ x h. chosen c.in-Template.ensures (h)) c.summed.ensures.takes
+
+pub operand-returns-in-Template-clause-refuses : goal.operand-returns-in-Template-clause-refuses
+operand-returns-in-Template-clause-refuses t c = same_refuses c.summed.result _ _ (λ h. chosen c.in-Template.ensures h) c.summed.ensures.refuses
+
 pub operand-returns-in-Literal-clause-takes : goal.operand-returns-in-Literal-clause-takes
 operand-returns-in-Literal-clause-takes t c = same_takes c.constant.result _ _ (λ x h. chosen c.in-Literal.ensures (h)) c.constant.ensures.takes
 

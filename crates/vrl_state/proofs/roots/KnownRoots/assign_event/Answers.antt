@@ -1,8 +1,6 @@
 use Rattle.std.proofs.Common.{Some, refl, subst}
 use Rattle.vrl_syntax.specs.declared.root.Root.TheVariants.{Event}
-use Rattle.vrl_kind.specs.Kinds.{tags_at}
-use Rattle.vrl_place.specs.Write.{write}
-use Rattle.vrl_state.specs.States.{HasNow}
+use Rattle.vrl_state.specs.States.{HasNow, IsWrittenKind}
 use Rattle.vrl_state.proofs.Limits.{written_root}
 use Rattle.vrl_state.proofs.roots.KnownRoots.assign_event.Goals as goal
 
@@ -12,5 +10,5 @@ invariant_of-self-2 c = record { event = written_root _ c.args.new.now _ c.args.
 pub returns-clause-ok : goal.returns-clause-ok
 returns-clause-ok c =
     let M = c.write_shared.new.kind.value in
-    subst (λ roots. HasNow Event (write (tags_at roots.event) c.args.path.now (tags_at c.args.new.now)) roots (Some (record { event = M; variables = c.self.inside.variables }))) c.self.view_is
+    subst (λ roots. HasNow Event (IsWrittenKind roots.event c.args.path.now c.args.new.now) roots (Some (record { event = M; variables = c.self.inside.variables }))) c.self.view_is
     (M, c.in_ok-write_shared.ensures.ok, refl)

@@ -1,9 +1,0 @@
-use Rattle.std.proofs.Common.{refl}
-use Rattle.vrl_token.specs.Faults.{unknown_escape}
-use Rattle.vrl_token.proofs.literals.cut_read.Goals as goal
-
-pub returns-in-None : goal.returns-in-None
-returns-in-None c = λ before opening characters spelled read. record { rest = c.args.rest.now; is_fault = unknown_escape characters spelled (rw c.in-None.is at read) refl; length_is = refl }
-
-pub returns-in-Some : goal.returns-in-Some
-returns-in-Some c = λ before opening characters spelled read. let known = rw c.in-Some.is at read in c.cut_escaped.ensures before opening characters spelled known.0 known.1
