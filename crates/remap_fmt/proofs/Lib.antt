@@ -1,0 +1,4 @@
+mod Calls
+mod Determined
+mod Leaving
+mod ScriptAnswers

@@ -1,0 +1,6 @@
+mod Blanks
+mod Lines
+mod Noted
+mod Written
+mod Answers
+mod Steps

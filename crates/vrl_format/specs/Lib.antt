@@ -1,0 +1,5 @@
+pub mod Pieces
+pub mod Layout
+pub mod Formatting
+pub mod Laws
+pub mod Writing
