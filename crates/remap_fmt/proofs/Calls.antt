@@ -22,7 +22,7 @@ refused_call held name result given output report report_after none given_is who
       bytes = None;
       are_held = tt;
       leaves = reported_as Usage result given (codes "usage: remap_fmt SCRIPT" ++ 10 ∷ []) output
-      report report_after given_is whole front either;
+          report report_after given_is whole front either;
     })
 
 -- words that name a script with these bytes
@@ -58,7 +58,7 @@ unanswered_call held name script result at named no_answer no_fault =
       bytes = told held script;
       are_held = is_told held script;
       leaves = nothing_left (Answers (Some script) (told held script)) result at at no_answer
-      no_fault;
+          no_fault;
     })
 
 pub unloaded_call : (held : Held) (name : Option (List ℕ)) (script : List ℕ) (at : Written)

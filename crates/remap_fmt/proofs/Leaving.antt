@@ -30,8 +30,12 @@ reported : (status result : FmtStatus) (bytes : List ℕ)
     → LeavesAnswer (λ answer. answer ≡ refusal status bytes) result (sinks output report)
     (sinks output report_after)
 reported status result bytes output report report_after whole front either = record {
-  whole = λ answers. (refusal status bytes, refl, own status result answers either,
-  (unchanged output, whole answers));
+  whole = λ answers. (
+    refusal status bytes,
+    refl,
+    own status result answers either,
+    (unchanged output, whole answers),
+  );
   cut = λ failed. (refusal status bytes, refl, (no_front output, front));
 }
 
@@ -55,8 +59,12 @@ pub written : (result : FmtStatus) (bytes : List ℕ) (output output_after repor
     → LeavesAnswer (λ answer. answer ≡ laid_out bytes) result (sinks output report)
     (sinks output_after report)
 written result bytes output output_after report whole front either = record {
-  whole = λ answers. (laid_out bytes, refl, own Done result answers either,
-  (whole answers, unchanged report));
+  whole = λ answers. (
+    laid_out bytes,
+    refl,
+    own Done result answers either,
+    (whole answers, unchanged report),
+  );
   cut = λ failed. (laid_out bytes, refl, (front, no_front report));
 }
 
