@@ -9,10 +9,10 @@ use Rattle.vrl_token.specs.declared.piece.Piece.TheVariants.{Blank, Comment, New
 use Rattle.vrl_token.specs.declared.token.Hole.{Hole}
 use Rattle.vrl_token.specs.declared.token.Token.{Token}
 use Rattle.vrl_token.specs.declared.token.Token.TheVariants as token
-use Rattle.vrl_token.specs.Lexical.{BeginsInside, BeginsOutside, IsBlank, IsDigit, IsLongestRun, IsName, IsNamePart, IsNameStart, keywords}
+use Rattle.vrl_token.specs.Lexical.{BeginsInside, IsBlank, IsDigit, IsLongestRun, IsName, IsNamePart, IsNameStart, keywords}
 use Rattle.vrl_token.specs.Characters.{Character}
 use Rattle.vrl_token.specs.Numbers.{DigitsGoOn, IsBehindSign, IsDigits, IsNumeral}
-use Rattle.vrl_token.specs.Paths.{BeginsDotted, HasFlaw, HasSteps, RootSegments, Segment, Segments, field, index, quoted}
+use Rattle.vrl_token.specs.Paths.{HasFlaw, HasSteps, RootSegments, Segment, Segments}
 use Rattle.vrl_token.specs.Context.{closes_before}
 use Rattle.vrl_token.specs.Words.{BeginsRaw, BeginsWith, BeginsWithToken, IsCallRest, IsFreeName, IsNameRun, IsNonempty, IsRaw, IsRawLetter, IsTextSpelling, MayHaveSign, NoSegment, NoSuffix}
 use Rattle.vrl_token.specs.Pieces.{Begins}
@@ -20,6 +20,7 @@ use Rattle.vrl_token.specs.Faults.{IsBehindCharacter, IsFault, IsStray, unclosed
 use Rattle.vrl_token.proofs.SegmentLemmas.{closed_not_unclosed}
 use Rattle.vrl_token.proofs.Only.{Lexed, fault, finish, first, piece, second}
 use Rattle.vrl_token.proofs.Unique.{digits_begin}
+use Rattle.vrl_token.proofs.Beginnings.{inside_apart, not_inside, one_letter, path_begins, root_begins}
 use Rattle.vrl_token.proofs.Starts.{FreeWay, IsBangCall, IsSuffixed, NameWay, NumeralWay, RawWay, Start, StepsWay, TextWay, Way, WayOf, ampersand, blank, digit, dot, keyword_of, letter, only_start, percent, question, square, start_blank, start_digit, start_letter, start_of, start_stray, stray, token_of_parts}
 
 -- what the definitions say that the text begins with
@@ -39,14 +40,6 @@ at : {before : List Piece} {text : List ℕ} {a : Lexed} (b : ℕ) (bs : List �
 at {before} {text} {a} b bs parts way = at_start (start_of b) b bs parts refl way
 
 -- ---- first bytes
-
-not_inside : (P : ℕ → Type 0) (text : List ℕ) → BeginsOutside P text → ¬ BeginsInside P text
-not_inside P [] outside inside = inside
-not_inside P (b ∷ bs) outside inside = outside inside
-
-inside_apart : (P Q : ℕ → Type 0) (text : List ℕ) → ((b : ℕ) → P b → ¬ Q b) → BeginsInside P text → ¬ BeginsInside Q text
-inside_apart P Q [] apart one two = one
-inside_apart P Q (b ∷ bs) apart one two = apart b one two
 
 same_fault : {code other : ℕ} {rest last : List ℕ} → code ≡ other → rest ≡ last → fault code rest ≡ fault other last
 same_fault {code} {other} {rest} {last} one two = ap (λ c. fault c rest) one ∙ ap (λ t. fault other t) two
@@ -85,11 +78,6 @@ numeral_way {before} {a} {text} {digits} {rest} negative may is way = sign_way b
 
 -- ---- names
 
-one_letter : (name text rest : List ℕ) → IsName name → IsLongestRun IsNamePart text name rest → BeginsRaw text → (length name ≡ 1) × BeginsWith 39 rest
-one_letter [] text rest is run raw = absurd is
-one_letter (b ∷ []) text rest is run raw = (refl, (subst BeginsRaw run.parts raw).1)
-one_letter (b ∷ c ∷ cs) text rest is run raw = let mark = (subst BeginsRaw run.parts raw).1 in let part = is.1.0 in absurd (grind (arith, mark, part))
-
 named_way : {before : List Piece} {a : Lexed} {text rest : List ℕ} (name : List ℕ) → IsName name → IsLongestRun IsNamePart text name rest → ¬ BeginsRaw text → NameWay name rest a → Started before text a
 named_way [] is run none way = absurd is
 named_way {before} {a} {text} {rest} (b ∷ bs) is run none way =
@@ -118,15 +106,6 @@ bang_begins [] bang = bang
 bang_begins (b ∷ bs) bang = bang.0
 
 -- ---- paths
-
-segment_begins : (text : List ℕ) (segment : Segment) (rest : List ℕ) → BeginsDotted text segment rest → BeginsInside (λ b. (b ≡ 46) ⊎ (b ≡ 91)) text
-segment_begins text (field name) rest begins = subst (BeginsInside (λ b. (b ≡ 46) ⊎ (b ≡ 91))) (sym begins.parts) (inl refl)
-segment_begins text (quoted cs) rest begins = subst (BeginsInside (λ b. (b ≡ 46) ⊎ (b ≡ 91))) (sym begins.parts) (inl refl)
-segment_begins text (index negative digits) rest begins = subst (BeginsInside (λ b. (b ≡ 46) ⊎ (b ≡ 91))) (sym begins.parts) (inr refl)
-
-path_begins : (text : List ℕ) (segments : List Segment) (rest : List ℕ) → Segments text segments rest → IsNonempty segments → BeginsInside (λ b. (b ≡ 46) ⊎ (b ≡ 91)) text
-path_begins text [] rest walk some = absurd some
-path_begins text (s ∷ ss) rest walk some = segment_begins text s walk.0 walk.1
 
 some_segment : (text : List ℕ) (segments : List Segment) (rest : List ℕ) → Segments text segments rest → IsNonempty segments → ¬ NoSegment text
 some_segment text [] rest walk some none = some
@@ -159,10 +138,6 @@ suffix_way {before} {a} (b ∷ bs) {rest} segments closes walk some way =
 no_suffix : (before : List Piece) (text : List ℕ) → NoSuffix before text → ¬ IsSuffixed before text
 no_suffix before text (inl open_operand) suffixed = let wrong : true ≡ false = sym suffixed.0 ∙ open_operand in cc
 no_suffix before text (inr none) suffixed = suffixed.1 none
-
-root_begins : (sign : ℕ) (text : List ℕ) (segments : List Segment) (rest : List ℕ) → RootSegments sign text segments rest → BeginsWith sign text
-root_begins sign text [] rest walk = subst (BeginsWith sign) (sym walk.0) refl
-root_begins sign text (s ∷ ss) rest walk = subst (BeginsWith sign) (sym walk.2) refl
 
 event_way : {before : List Piece} {a : Lexed} (text : List ℕ) {rest : List ℕ} (segments : List Segment) → RootSegments 46 text segments rest → NoSuffix before text → StepsWay (λ path. token.EventPath path) segments rest a → Started before text a
 event_way [] {rest} segments walk none way = absurd (root_begins 46 [] segments rest walk)

@@ -1,9 +1,10 @@
+mod Beginnings
 mod Begun
 mod Classes
 mod Counts
 mod Determined
 mod Digits
-mod Ends
+pub mod Ends
 mod Escapes
 mod FaultCodes
 mod Floats
@@ -22,12 +23,15 @@ pub mod HolePlaces
 pub mod Placed
 mod Quotes
 mod Readied
+mod Respelled
 mod Runs
 mod SegmentLemmas
+mod Spelled
 mod Starts
 mod Stepped
+mod Stopping
 mod Strays
-mod Taking
+pub mod Taking
 mod Told
 mod Unique
 mod Walks

@@ -24,3 +24,4 @@ pub mod Depths
 pub mod Telling
 pub mod Reading
 pub mod Laws
+pub mod Respelling

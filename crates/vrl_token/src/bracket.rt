@@ -1,6 +1,6 @@
 /// A bracket that is open.
 #[derive(Clone, Copy)]
-pub(crate) enum Bracket {
+pub enum Bracket {
     /// `(`
     Parenthesis,
     /// `[`

@@ -1,4 +1,5 @@
 ghost use Rattle.vrl_token.specs.Laws.{TokensAreDetermined};
+ghost use Rattle.vrl_token.specs.Respelling.{RespellingLaws};
 
 use vrl_value::moments_read_back;
 
@@ -9,3 +10,10 @@ pub fn tokens_are_determined()
 {
     moments_read_back();
 }
+
+/// A piece that a text begins with is a piece of a text with other blanks and newlines, behind
+/// pieces that keep its context and before a rest with which it can't be longer. This takes no
+/// time: it is a law about the definitions.
+pub fn pieces_are_respelled()
+    ensures { RespellingLaws }
+{}

@@ -8,7 +8,8 @@
 //! Then `telling.rt` says what braces, bars and newlines are, by what stands behind (`ahead.rt`)
 //! and before (`before.rt`, with the open brackets of `bracket.rt`), and `nesting.rt` how deep
 //! tokens are nested. `token.rt` has the tokens, `fault.rt` why there are none, and `laws.rt` that
-//! a text has one list of them.
+//! a text has one list of them, and which pieces stay where a text is written again with other
+//! blanks and newlines.
 #![tactic(auto)]
 
 mod ahead;
@@ -34,7 +35,9 @@ mod telling;
 mod template;
 mod token;
 
+pub use bracket::Bracket;
 pub use fault::SyntaxFault;
-pub use laws::tokens_are_determined;
+pub use laws::{pieces_are_respelled, tokens_are_determined};
+pub use piece::{Lexeme, Piece};
 pub use reading::{SCRIPT_LIMIT, script_text, tokens};
 pub use token::{Hole, Holes, Spanned, Token, Tokens};

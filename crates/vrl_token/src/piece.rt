@@ -3,7 +3,7 @@ use vrl_diag::Span;
 
 /// What stands next in a text, before brackets, bars and newlines are told apart.
 #[derive(Drop)]
-pub(crate) enum Piece {
+pub enum Piece {
     /// Spaces, tabs and carriage returns.
     Blank,
     /// `#` and what follows it on the line.
@@ -20,9 +20,9 @@ pub(crate) enum Piece {
 
 /// A piece and where it stands.
 #[derive(Drop)]
-pub(crate) struct Lexeme {
+pub struct Lexeme {
     /// The piece.
-    pub(crate) piece: Piece,
+    pub piece: Piece,
     /// The bytes of its spelling.
-    pub(crate) span: Span,
+    pub span: Span,
 }
