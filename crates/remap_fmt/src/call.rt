@@ -1,4 +1,5 @@
 ghost use Rattle.std.specs.Prelude.{◌≡◌, ◌⊎◌, [], ◌∷◌, ◌++◌, IsSome, IsSomeAnd, None};
+ghost use Rattle.vrl_format.specs.Laws.{LayoutsMeanTheSame, LayoutsStay};
 ghost use Rattle.vrl_io.specs.Faults.{HasRisen};
 ghost use Rattle.remap_fmt.specs.Answer.{script_in, texts, AnswersAreDetermined};
 ghost use Rattle.remap_fmt.specs.Call.{sinks, IsCall};
@@ -8,7 +9,7 @@ use crate::answering::{answer, give};
 use crate::status::FmtStatus;
 use crate::words::script_in;
 use std::alloc::Global;
-use vrl_format::answers_are_determined;
+use vrl_format::{answers_are_determined, layouts_mean_the_same, layouts_stay};
 use vrl_io::{LoadFault, Sink, Store};
 use vrl_token::SCRIPT_LIMIT;
 
@@ -32,6 +33,9 @@ pub fn fmt<F: Store, O: Sink, E: Sink>(
         (sinks (O.written output.new) (E.written report.new)) }
     // There is one answer at most to a script's bytes, and to words that are refused.
     ensures determined { AnswersAreDetermined }
+    // The layout of a script reads to the same script with the same comments, and is its own layout.
+    ensures meaning { LayoutsMeanTheSame }
+    ensures still { LayoutsStay }
 
     // Where nothing fails the answer comes, or memory is wanted.
     ensures complete { F.failures files.new ≡ F.failures files.old
@@ -60,6 +64,8 @@ pub fn fmt<F: Store, O: Sink, E: Sink>(
         → (output.new ≡ output.old) × (report.new ≡ report.old) }
 {
     one_answer();
+    layouts_mean_the_same();
+    layouts_stay();
     let Some(name) = script_in(words) else {
         return give(report, USAGE_LINE.as_bytes(), FmtStatus::Usage);
     };

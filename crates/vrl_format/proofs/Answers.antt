@@ -13,10 +13,11 @@ use Rattle.vrl_token.specs.declared.fault.SyntaxFault.{SyntaxFault}
 use Rattle.vrl_token.specs.declared.fault.SyntaxFault.TheVariants.{Fault, Memory}
 use Rattle.vrl_token.specs.declared.token.Spanned.{Spanned}
 use Rattle.vrl_parse.specs.Reading.{ErrorPlacesAreDetermined, IsScriptFault, no_script, path_fault, Reads, ScriptsAreDetermined}
-use Rattle.vrl_format.specs.Formatting.{IsFaultOf, in_script, in_tokens, IsReadTo}
-use Rattle.vrl_format.specs.Laws.{AnswersAreDetermined}
+use Rattle.vrl_format.specs.Formatting.{IsAnswer, IsFaultOf, in_script, in_tokens, IsReadTo, IsStill, KeepsMeaning}
+use Rattle.vrl_format.specs.Laws.{AnswersAreDetermined, LayoutsMeanTheSame, LayoutsStay}
 use Rattle.vrl_format.specs.Layout.{IsLayout, layout}
 use Rattle.vrl_format.specs.Pieces.{pieces_of}
+use Rattle.vrl_format.specs.declared.formatting.Formatted.{Formatted}
 use Rattle.vrl_format.specs.declared.formatting.Formatted.TheVariants.{Text, Refused, TooLong}
 
 -- ---- faults
@@ -90,3 +91,17 @@ script_fault text found (Fault d) tokenized ends is =
     let made : ℕ → TokenList = λ n. record { tokens = found.tokens; «end» = n } in
     in_script {tokens = found.tokens} tokenized (subst (λ n. IsScriptFault (made n) d) ends is)
 script_fault text found Memory tokenized ends is = tt
+
+-- ---- layouts
+
+-- an answered layout means the same
+pub keeps_meaning : LayoutsMeanTheSame → (text : List ℕ) (answer : Formatted) → IsAnswer text answer → KeepsMeaning text answer
+keeps_meaning same text (Text laid) is = same text laid is.0
+keeps_meaning same text (Refused fault) is = tt
+keeps_meaning same text TooLong is = tt
+
+-- and is answered to itself
+pub is_still : LayoutsStay → (text : List ℕ) (answer : Formatted) → IsAnswer text answer → IsStill answer
+is_still stays text (Text laid) is = (stays text laid is.0, is.1)
+is_still stays text (Refused fault) is = tt
+is_still stays text TooLong is = tt

@@ -8,6 +8,7 @@ use Rattle.vrl_format.specs.Layout.{blocks_at, blocks_behind, gap, gap_text, has
 use Rattle.vrl_format.specs.Pieces.{Before, Between, newline, semicolon, Piece, Remark, line_end, remark, Sort, comment, braces_behind, bytes_between, is_semicolon, opens_bare, pieces_at, pieces_from, pieces_of, remark_pieces, remarks_in, separator_pieces, sort_of, spelling_at, trimmed}
 use Rattle.vrl_format.specs.Writing.{Walking, Writing, at_first, ended, lead, noted, put, put_separator, see, taken, walked, with_seen}
 use Rattle.vrl_format.specs.declared.gap.Seen.{Seen}
+use Rattle.vrl_format.proofs.Tests.{any_more, or_all, or_nothing}
 
 -- ---- what is seen of what stands between two pieces
 
@@ -18,22 +19,6 @@ ends_at_newline (b ∷ c ∷ cs) = ends_at_newline (c ∷ cs)
 
 abbrev summary : List Between → Seen
 summary bs = record { separator = list_any parts bs; newline = list_any is_newline bs; empty_line = has_empty_line bs; at_newline = ends_at_newline bs }
-
-or_nothing : (a : Bool) → (a || false) ≡ a
-or_nothing true = refl
-or_nothing false = refl
-
-or_grouped : (a b c : Bool) → (a || (b || c)) ≡ ((a || b) || c)
-or_grouped true b c = refl
-or_grouped false b c = refl
-
-or_all : (a : Bool) → (a || true) ≡ true
-or_all true = refl
-or_all false = refl
-
-any_more : (p : Between → Bool) (bs : List Between) (b : Between) → list_any p (bs ++ b ∷ []) ≡ (list_any p bs || p b)
-any_more p [] b = or_nothing (p b)
-any_more p (a ∷ bs) b = ap (λ t. p a || t) (any_more p bs b) ∙ or_grouped (p a) (list_any p bs) (p b)
 
 empty_behind_newline : (bs : List Between) (q : Bool) → has_empty_line (bs ++ newline q ∷ []) ≡ (has_empty_line bs || ends_at_newline bs)
 empty_behind_newline [] q = refl

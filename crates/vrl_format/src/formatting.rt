@@ -3,10 +3,11 @@ ghost use Rattle.vrl_syntax.specs.Tree.{Script};
 ghost use Rattle.vrl_token.specs.OnFault.{OnFault};
 ghost use Rattle.vrl_token.specs.Placing.{InOrderFrom, IsOnCharacters, script_limit, spans_of};
 ghost use Rattle.vrl_token.specs.Reading.{IsTokenized};
-ghost use Rattle.vrl_format.specs.Formatting.{IsAnswer, IsFaultOf, IsReadTo};
+ghost use Rattle.vrl_format.specs.Formatting.{IsAnswer, IsFaultOf, IsReadTo, IsStill, KeepsMeaning};
 ghost use Rattle.vrl_format.specs.Layout.{layout};
 ghost use Rattle.vrl_format.specs.Pieces.{pieces_of};
 
+use crate::laws::{layouts_mean_the_same, layouts_stay};
 use crate::walk::walked;
 use std::alloc::Global;
 use vrl_diag::Diagnostic;
@@ -77,6 +78,9 @@ fn layout(alloc: Global, text: &str, tokens: &[Spanned]) -> Result<String, Memor
 ///   an operand, the `}` of an object and the bar that closes these names. Elsewhere on a line a
 ///   single space does, and before a comment always.
 ///
+/// The layout reads to the same script but for places, has the same comments behind as many tokens,
+/// and is its own layout.
+///
 /// `Refused`: the text is no script, for what `tokens` or `parse` says. `TooLong`: its layout has
 /// over 65,536 bytes.
 ///
@@ -86,7 +90,11 @@ fn layout(alloc: Global, text: &str, tokens: &[Spanned]) -> Result<String, Memor
 pub fn format(alloc: Global, text: &str) -> Result<Formatted, Memory>
     requires { length text.now ≤ script_limit }
     ensures answer { IfOk result (IsAnswer text.now) }
+    ensures meaning { IfOk result (KeepsMeaning text.now) }
+    ensures still { IfOk result IsStill }
 {
+    layouts_mean_the_same();
+    layouts_stay();
     let found = match read(alloc, text) {
         Ok(found) => found,
         Err(fault) => return refused(fault),
