@@ -8,6 +8,7 @@ pub mod Inhabiting
 pub mod Joins
 pub mod Known
 pub mod Lighter
+pub mod Longest
 pub mod Making
 pub mod Merging
 pub mod Namewise
@@ -15,11 +16,13 @@ pub mod Naming
 pub mod OneKind
 pub mod Overlays
 pub mod Placing
+pub mod Repeating
 pub mod Sameness
 pub mod Shapes
 pub mod Sizes
 pub mod Slices
 pub mod SomePart
+pub mod Stretching
 pub mod TagTests
 pub mod Texts
 pub mod TreeTests

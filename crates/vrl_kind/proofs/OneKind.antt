@@ -148,7 +148,7 @@ behind Equal m n q k l K fs gs is name a b same =
     let g : field_or gs K q ≡ K = ap (field_or gs K) (e ∙ name) ∙ unknown K n gs b in
     λ p t. ap (λ j. tags_at j p t) (f ∙ sym g)
 
-rest_canonical : (r : RestTree) → RestIsCanonical r → IsCanonical (rest_kind r)
+pub rest_canonical : (r : RestTree) → RestIsCanonical r → IsCanonical (rest_kind r)
 rest_canonical nothing a = (tt, tt)
 rest_canonical json_rest a = ((tt, tt, tt), (tt, tt, tt))
 rest_canonical any_rest a = ((tt, tt, tt), (tt, tt, tt))

@@ -20,6 +20,7 @@ pub mod Scalars
 pub mod Seen
 pub mod Separated
 pub mod Sets
+pub mod Stretch
 pub mod Tags
 pub mod TreeTest
 pub mod View

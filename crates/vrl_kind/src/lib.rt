@@ -29,6 +29,7 @@ mod printing;
 mod same;
 mod scalars;
 mod seen;
+mod stretch;
 
 pub use count::{levels, nodes};
 pub use fields::field_index;
@@ -48,3 +49,4 @@ pub use order::{TAGS, disjoint, within};
 pub use overlay::overlaid;
 pub use printing::print;
 pub use scalars::Scalars;
+pub use stretch::{Stretch, longest_list, stretched_cut, stretched_nodes};

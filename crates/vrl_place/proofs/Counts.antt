@@ -1,5 +1,5 @@
 -- How many items the arrays of a kind have whose length it tells.
-use Rattle.std.proofs.Common.{◌≡◌, ◌≢◌, ℕ, zero, suc, ◌<◌, ◌≤◌, true, false, IsTrue, List, [], ◌∷◌, Option, Some, None, Ordering, Less, Equal, Greater, refl, sym, ap, ◌∙◌, subst, arith}
+use Rattle.std.proofs.Common.{◌≡◌, ℕ, zero, suc, ◌<◌, true, IsTrue, [], ◌∷◌, Option, Some, None, Ordering, Less, Equal, Greater, refl, sym, ◌∙◌, subst, arith}
 use Rattle.std.proofs.lemmas.Bool.{true≢false}
 use Rattle.std.specs.Option.{IfSome}
 use Rattle.std.specs.Ordering.{nat_cmp}
@@ -7,7 +7,6 @@ use Rattle.vrl_value.specs.Look.{Step, place, item_at, raw_at, found_behind, fou
 use Rattle.vrl_value.specs.Parts.{count_of}
 use Rattle.vrl_value.specs.Tag.{tag_of}
 use Rattle.vrl_value.specs.Tree.{Tree, string, integer, boolean, null, timestamp, regex, array, object, Items, no_items, item}
-use Rattle.vrl_value.specs.declared.value.Tag.{Tag}
 use Rattle.vrl_value.specs.declared.value.Tag.TheVariants as tag
 use Rattle.vrl_kind.specs.Sets.{Sets}
 use Rattle.vrl_kind.specs.Tags.{only}

@@ -2,7 +2,7 @@
 use Rattle.std.proofs.Common.{◌≡◌, ℕ, ℤ, zero, suc, ◌+◌, ◌<◌, ◌≤◌, Bool, true, false, ◌||◌, ◌&&◌, not, List, [], ◌∷◌, Option, Some, None, MatchOption, length, refl, sym, ap, ◌∙◌, subst, arith}
 use Rattle.std.proofs.lemmas.Bool.{true≢false}
 use Rattle.std.specs.List.{list_all}
-use Rattle.vrl_value.specs.Look.{Step, field, place}
+use Rattle.vrl_value.specs.Look.{Step, place}
 use Rattle.vrl_value.specs.declared.value.Tag.{Tag}
 use Rattle.vrl_value.specs.declared.value.Tag.TheVariants as tag
 use Rattle.vrl_kind.specs.Canonical.{IsCanonical, LastIsNot, ListIsCanonical, RestIsCanonical, allows_absent, list_tree, never_kind, rest_kind}
@@ -11,7 +11,6 @@ use Rattle.vrl_kind.specs.Kinds.{has_list, has_object, list_at, places_at, rest_
 use Rattle.vrl_kind.specs.Sets.{Sets}
 use Rattle.vrl_kind.specs.Tags.{Tags, only}
 use Rattle.vrl_kind.specs.View.{places_view}
-use Rattle.vrl_kind.specs.declared.scalars.Scalars.{Scalars}
 use Rattle.vrl_path.specs.Read.{place_of}
 use Rattle.vrl_place.specs.FromEnd.{HasLength, IsSurePlace}
 use Rattle.vrl_place.specs.Inner.{is_nothing, is_sure}

@@ -1,8 +1,12 @@
 pub mod Changed
 pub mod Counts
+pub mod FarRemovals
+pub mod FarWrites
 pub mod InPlace
 pub mod Lengths
+pub mod Levels
 pub mod Looked
+pub mod Near
 pub mod OneResult
 pub mod Orders
 pub mod Reading

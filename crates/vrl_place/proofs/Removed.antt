@@ -1,5 +1,5 @@
 -- A value in which something was removed is of the kind that a removal leaves.
-use Rattle.std.proofs.Common.{◌≡◌, ◌≢◌, inl, inr, ℕ, zero, suc, pos, negsuc, ◌<◌, ◌≤◌, true, false, IsTrue, List, [], ◌∷◌, ◌++◌, Option, Some, None, MatchOption, Ordering, Less, Equal, Greater, refl, sym, ap, ◌∙◌, subst, arith}
+use Rattle.std.proofs.Common.{◌≡◌, ◌≢◌, inl, inr, ℕ, zero, suc, pos, negsuc, ◌<◌, ◌≤◌, true, IsTrue, List, [], ◌∷◌, ◌++◌, Option, Some, None, MatchOption, Ordering, Less, Equal, Greater, refl, sym, ap, ◌∙◌, subst, arith}
 use Rattle.std.proofs.lemmas.Bool.{true≢false}
 use Rattle.std.proofs.lemmas.Option.{IfSome_then}
 use Rattle.std.specs.Cmp.Lexicographic.{slice_cmp}
@@ -8,7 +8,7 @@ use Rattle.std.specs.Ordering.{nat_cmp}
 use Rattle.vrl_value.specs.Look.{Step, field, place, Found, there, missing, no_place, raw_at, part_at, found_if, found_behind, item_at, tag_found}
 use Rattle.vrl_value.specs.Parts.{count_of}
 use Rattle.vrl_value.specs.Tag.{tag_of}
-use Rattle.vrl_value.specs.Tree.{Tree, string, integer, boolean, null, timestamp, regex, array, object, Items, no_items, item, find}
+use Rattle.vrl_value.specs.Tree.{Tree, string, integer, boolean, null, timestamp, regex, array, object, Items, no_items, item}
 use Rattle.vrl_value.specs.declared.value.Tag.{Tag}
 use Rattle.vrl_value.specs.declared.value.Tag.TheVariants as tag
 use Rattle.vrl_path.specs.FromEnd.{part_behind, step_in, steps_in}
@@ -27,8 +27,7 @@ use Rattle.vrl_place.specs.Sets.{or_absent_if, part}
 use Rattle.vrl_place.proofs.Counts.{has_count}
 use Rattle.vrl_place.proofs.Orders.{equal, one_name, other_name, over, under}
 use Rattle.vrl_place.proofs.Removing.{removed_root}
-use Rattle.vrl_place.proofs.Same.{one_sets}
-use Rattle.vrl_place.proofs.Tags.{both, left_of, right_of}
+use Rattle.vrl_place.proofs.Tags.{both, right_of}
 use Rattle.vrl_place.proofs.Values.{IsIn, by_order, field_same, fitting_tag, place_same, still_allowed}
 use Rattle.vrl_place.proofs.Written.{EachIs, in_sets, item_or_absent, items_are, left_in, part_is, right_in, step_is}
 

@@ -1,5 +1,5 @@
 -- Values of a kind, and what is found in them.
-use Rattle.std.proofs.Common.{◌≡◌, ◌≢◌, inl, inr, ℕ, pos, negsuc, Bool, true, ◌||◌, IsTrue, List, [], ◌∷◌, ◌++◌, Option, Some, None, Ordering, Less, Equal, Greater, unwrap_or, refl, sym, subst}
+use Rattle.std.proofs.Common.{◌≡◌, ◌≢◌, inl, inr, ℕ, pos, negsuc, Bool, true, ◌||◌, IsTrue, List, [], ◌∷◌, Option, Some, None, Ordering, Less, Equal, Greater, unwrap_or, refl, sym, subst}
 use Rattle.std.proofs.lemmas.Option.{IfSome_then}
 use Rattle.std.specs.Option.{IfSome}
 use Rattle.std.specs.Ordering.{match_ordering}

@@ -1,5 +1,5 @@
 -- Places that count from the end of an array, as kinds know them.
-use Rattle.std.specs.Prelude.{◌≡◌, ◌<◌, ◌≤◌, ◌||◌, ◌↔◌, not, false, true, ℕ, ℤ, Option, Some, List, [], ◌∷◌, IsTrue}
+use Rattle.std.specs.Prelude.{◌≡◌, ◌<◌, ◌≤◌, ◌↔◌, not, false, true, ℕ, ℤ, Some, List, [], ◌∷◌, IsTrue}
 use Rattle.vrl_value.specs.Look.{Step, field, place}
 use Rattle.vrl_value.specs.declared.value.Tag.{Tag}
 use Rattle.vrl_value.specs.declared.value.Tag.TheVariants as tag

@@ -1,4 +1,5 @@
 pub mod Absence
+pub mod Far
 pub mod FromEnd
 pub mod Inner
 pub mod Laws

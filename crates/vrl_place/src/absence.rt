@@ -12,8 +12,9 @@ use vrl_kind::Kind;
 use vrl_path::{Path, Step};
 use vrl_value::Tag;
 
-/// Whether a value of the kind may have nothing at the path: where the kind of what stands there may be
-/// absent, or a step may meet what is no fitting container, or counts from the end of an array. It takes no memory.
+/// Whether a value of the kind may have nothing at the path: where the kind of what stands there
+/// may be absent, or a step may meet what is no fitting container, or counts from the end of an
+/// array. It takes no memory.
 pub fn may_be_absent(kind: &Kind, path: &Path) -> bool
     ensures tags { result ≡ may_be_absent (tags_at kind.now) path.now }
     ensures inhabited { (value : Tree) → Inhabits value kind.now

@@ -3,7 +3,8 @@ ghost use Rattle.vrl_kind.specs.Kinds.{tags_at};
 ghost use Rattle.vrl_kind.specs.Merge.{FieldsAreSorted};
 ghost use Rattle.vrl_kind.specs.Sets.{SameSets};
 ghost use Rattle.vrl_kind.specs.View.{fields_view};
-ghost use Rattle.vrl_place.specs.Inner.{AreOtherFields, ArePushed, FieldsAre, FieldsAreOf, IsCutAt, fields_sets, spot_sets};
+ghost use Rattle.vrl_place.specs.Inner.{AreOtherFields, ArePushed, FieldsAre, FieldsAreOf, IsCutAt};
+ghost use Rattle.vrl_place.specs.Inner.{fields_sets, spot_sets};
 ghost use Rattle.vrl_place.specs.Sets.{or_absent_if};
 
 use crate::spot::{Bare, Spot};
@@ -79,8 +80,8 @@ impl<'a> Fields<'a> {
         }
     }
 
-    // The kinds of the fields with this one at a name, the last field first. If it is wanted, what stands at the
-    // others may be absent. `Memory`: want of memory.
+    // The kinds of the fields with this one at a name, the last field first. If it is wanted, what
+    // stands at the others may be absent. `Memory`: want of memory.
     pub(crate) fn with(
         self,
         alloc: Global,
@@ -89,7 +90,8 @@ impl<'a> Fields<'a> {
         absent: bool,
     ) -> Result<Vec<(Chars, Kind)>, Memory>
         requires { FieldsAreSorted (fields_view self.known.now) }
-        ensures { IfOk result (λ fields. FieldsAre self.entry name.now (tags_at kind) absent fields.items) }
+        ensures { IfOk result
+            (λ fields. FieldsAre self.entry name.now (tags_at kind) absent fields.items) }
     {
         let cut = cut_at(self.known, name);
         let mut fields = Vec::with_capacity(alloc, self.known.len().saturating_add(1))?;
@@ -100,7 +102,8 @@ impl<'a> Fields<'a> {
     }
 }
 
-/// The known fields of a kind, cut at a name: those before it, the one that has it, and those behind it.
+/// The known fields of a kind, cut at a name: those before it, the one that has it, and those
+/// behind it.
 #[derive(Clone, Copy)]
 pub(crate) struct Cut<'a> {
     pub(crate) before: &'a [KindField],
@@ -127,8 +130,8 @@ fn cut_at<'a>(fields: &'a [KindField], name: &Chars) -> Cut<'a>
     }
 }
 
-// Puts copies of known fields behind others, the last field first. If it is wanted, what stands there may be absent.
-// `Memory`: want of memory; some may be put.
+// Puts copies of known fields behind others, the last field first. If it is wanted, what stands
+// there may be absent. `Memory`: want of memory; some may be put.
 fn push_copies(
     alloc: Global,
     fields: &mut Vec<(Chars, Kind)>,
@@ -148,7 +151,8 @@ fn push_copies(
 // A copy of a field, which may be absent too, if that is wanted. `Memory`: want of memory.
 fn copied(alloc: Global, field: &KindField, absent: bool) -> Result<(Chars, Kind), Memory>
     ensures name { IfOk result (λ copy. copy.0 ≡ field.now.name) }
-    ensures kind { IfOk result (λ copy. SameSets (tags_at copy.1) (or_absent_if absent (tags_at field.now.kind))) }
+    ensures kind { IfOk result
+        (λ copy. SameSets (tags_at copy.1) (or_absent_if absent (tags_at field.now.kind))) }
 {
     let name = field.name.copy(alloc)?;
     Ok((

@@ -1,7 +1,8 @@
 ghost use Rattle.std.specs.Prelude.{◌≡◌, ◌<◌, ◌≤◌, ◌+◌, IfOk, length};
 ghost use Rattle.vrl_kind.specs.Kinds.{tags_at};
 ghost use Rattle.vrl_kind.specs.Sets.{SameSets};
-ghost use Rattle.vrl_place.specs.Inner.{ArePlaces, PlacesAreOf, changed_place, lower_place, moved_place, null_if, places_sets, spot_sets};
+ghost use Rattle.vrl_place.specs.Inner.{ArePlaces, PlacesAreOf, changed_place, lower_place};
+ghost use Rattle.vrl_place.specs.Inner.{moved_place, null_if, places_sets, spot_sets};
 ghost use Rattle.vrl_place.specs.Sets.{or_absent_if};
 
 use crate::spot::{Bare, Spot};
@@ -65,9 +66,9 @@ impl<'a> Places<'a> {
         }
     }
 
-    // The kinds of the places with this one at the place `at`, up to that one and the last known one. If
-    // it is wanted, what stands at the others may be absent; and the lower ones have null for absent.
-    // `Memory`: want of memory.
+    // The kinds of the places with this one at the place `at`, up to that one and the last known
+    // one. If it is wanted, what stands at the others may be absent; and the lower ones have null
+    // for absent. `Memory`: want of memory.
     pub(crate) fn with(
         self,
         alloc: Global,
@@ -97,7 +98,8 @@ impl<'a> Places<'a> {
         absent: bool,
         filled: bool,
     ) -> Result<Vec<Kind>, Memory>
-        ensures places { IfOk result (λ kinds. ArePlaces kinds.items (lower_place self.entry absent filled)) }
+        ensures places { IfOk result
+            (λ kinds. ArePlaces kinds.items (lower_place self.entry absent filled)) }
         ensures at { IfOk result (λ kinds. length kinds.items ≡ at) }
     {
         let mut kinds = Vec::with_capacity(alloc, at)?;
@@ -108,10 +110,11 @@ impl<'a> Places<'a> {
         Ok(kinds)
     }
 
-    // The kinds of the known places once what stands at the place `at` is removed, from which on each has
-    // what the next one had, and may be absent if `absent`. `Memory`: want of memory.
+    // The kinds of the known places once what stands at the place `at` is removed, from which on
+    // each has what the next one had, and may be absent if `absent`. `Memory`: want of memory.
     pub(crate) fn moved(self, alloc: Global, at: usize, absent: bool) -> Result<Vec<Kind>, Memory>
-        ensures places { IfOk result (λ kinds. ArePlaces kinds.items (moved_place self.entry at absent)) }
+        ensures places { IfOk result
+            (λ kinds. ArePlaces kinds.items (moved_place self.entry at absent)) }
         ensures known { IfOk result (λ kinds. length kinds.items ≡ length self.entry.known.now) }
     {
         let mut kinds = Vec::with_capacity(alloc, self.known.len())?;

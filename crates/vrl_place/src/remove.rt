@@ -1,4 +1,5 @@
-ghost use Rattle.std.specs.Prelude.{◌≡◌, ◌<◌, IfOk, IsOk, IsSome, List, MatchOption, ℕ, OnErr, OnOk, [], ◌∷◌, None, false, length, true};
+ghost use Rattle.std.specs.Prelude.{◌≡◌, ◌<◌, IfOk, IsOk, IsSome, List, MatchOption, ℕ, OnErr};
+ghost use Rattle.std.specs.Prelude.{OnOk, [], ◌∷◌, None, false, length, true};
 ghost use Rattle.vrl_kind.specs.Canonical.{IsCanonical};
 ghost use Rattle.vrl_kind.specs.Fields.{knows_field, IsTaken};
 ghost use Rattle.vrl_kind.specs.KindTree.{KindTree};
@@ -8,7 +9,8 @@ ghost use Rattle.vrl_path.specs.Remove.{IsRemoved, removable_at};
 ghost use Rattle.vrl_path.specs.declared.path.Step.{Step as CodeStep};
 ghost use Rattle.vrl_path.specs.declared.path.Step.TheVariants.{Field, Place};
 ghost use Rattle.vrl_place.specs.Inner.{spot_sets};
-ghost use Rattle.vrl_place.specs.Remove.{without_part, IsLeftSomewhere, IsRemoval, IsTakenAt, IsTakenFromEnd, IsTakenSomewhere};
+ghost use Rattle.vrl_place.specs.Remove.{without_part, IsLeftSomewhere, IsRemoval, IsTakenAt};
+ghost use Rattle.vrl_place.specs.Remove.{IsTakenFromEnd, IsTakenSomewhere};
 ghost use Rattle.vrl_value.specs.Look.{field, place};
 ghost use Rattle.vrl_value.specs.Tree.{Tree};
 ghost use Rattle.vrl_value.specs.declared.value.Tag.{Tag};
@@ -22,18 +24,20 @@ use vrl_kind::{Kind, equal_tags_are_one_kind, has, join, kind_is_canonical};
 use vrl_path::{Path, Step, index};
 use vrl_value::{Chars, Memory, Tag};
 
-/// Makes the kind of a value that of the value once what stands at the path is removed: a field is absent, from
-/// a place on each has what the next one had, and all else stays. A negative place counts from the end of its array:
-/// where the arrays of the kind have one length it is the place that it counts to, if they have it, and else each
-/// place may be what some place was, or that without what stood in it. At an empty path nothing is removed. `Memory`:
-/// want of memory, but neither there nor at a field of what is never an object; the kind stays as it was.
+/// Makes the kind of a value that of the value once what stands at the path is removed: a field is
+/// absent, from a place on each has what the next one had, and all else stays. A negative place
+/// counts from the end of its array: where the arrays of the kind have one length it is the place
+/// that it counts to, if they have it, and else each place may be what some place was, or that
+/// without what stood in it. At an empty path nothing is removed. `Memory`: want of memory, but
+/// neither there nor at a field of what is never an object; the kind stays as it was.
 ///
-/// It goes down the fields of the path in place, as long as the kind knows the field by itself, and looks at
-/// none beside them. What stands beside the rest of the path it copies once.
+/// It goes down the fields of the path in place, as long as the kind knows the field by itself, and
+/// looks at none beside them. What stands beside the rest of the path it copies once.
 pub fn remove_kind(alloc: Global, kind: &mut Kind, path: &Path) -> Result<(), Memory>
     ensures tags { OnOk result (IsRemoval (tags_at kind.old) path.now (tags_at kind.new)) }
     ensures inhabited { OnOk result ((value without : Tree) → Inhabits value kind.old
-        → IsSome (removable_at value path.now) → IsRemoved value path.now without → Inhabits without kind.new) }
+        → IsSome (removable_at value path.now) → IsRemoved value path.now without
+        → Inhabits without kind.new) }
     ensures unchanged { OnOk result ((value : Tree) → Inhabits value kind.old
         → removable_at value path.now ≡ None → Inhabits value kind.new) }
     ensures root { OnOk result ((t : Tag) → tags_at kind.new [] t ≡ tags_at kind.old [] t) }
@@ -47,7 +51,7 @@ pub fn remove_kind(alloc: Global, kind: &mut Kind, path: &Path) -> Result<(), Me
 
 // Removes what stands at the end of the steps, in place as far as that goes.
 #[cycle(remove_in)]
-fn remove_in(alloc: Global, kind: &mut Kind, steps: &[Step]) -> Result<(), Memory>
+pub(crate) fn remove_in(alloc: Global, kind: &mut Kind, steps: &[Step]) -> Result<(), Memory>
     ensures ok { OnOk result (IsRemoval (tags_at kind.old) steps.now (tags_at kind.new)) }
     ensures whole { steps.now ≡ [] → IsOk result }
     ensures none { (name : List ℕ) (behind : List CodeStep) → steps.now ≡ Field name ∷ behind
@@ -79,7 +83,8 @@ fn remove_behind(
     name: &Chars,
     behind: &[Step],
 ) -> Result<(), Memory>
-    ensures ok { OnOk result (IsRemoval (tags_at kind.old) (Field name.now ∷ behind.now) (tags_at kind.new)) }
+    ensures ok { OnOk result
+        (IsRemoval (tags_at kind.old) (Field name.now ∷ behind.now) (tags_at kind.new)) }
     ensures none { tags_at kind.old [] tag.Object ≡ false → IsOk result }
     ensures err { OnErr result (kind.new ≡ kind.old) }
 {
@@ -95,7 +100,8 @@ fn remove_behind(
 // Removes a field.
 fn remove_whole_field(alloc: Global, kind: &mut Kind, name: &Chars) -> Result<(), Memory>
     requires { tags_at kind.old [] tag.Object ≡ true }
-    ensures ok { OnOk result (SameSets (tags_at kind.new) (without_part (tags_at kind.old) (field name.now))) }
+    ensures ok { OnOk result
+        (SameSets (tags_at kind.new) (without_part (tags_at kind.old) (field name.now))) }
     ensures err { OnErr result (kind.new ≡ kind.old) }
 {
     let absent = Kind::of(alloc, Tag::Absent);
@@ -108,7 +114,8 @@ fn remove_whole_field(alloc: Global, kind: &mut Kind, name: &Chars) -> Result<()
 fn remove_part(alloc: Global, kind: &mut Kind, name: &Chars, behind: &[Step]) -> Result<(), Memory>
     requires some { 0 < length behind.now }
     requires object { tags_at kind.old [] tag.Object ≡ true }
-    ensures ok { OnOk result (IsRemoval (tags_at kind.old) (Field name.now ∷ behind.now) (tags_at kind.new)) }
+    ensures ok { OnOk result
+        (IsRemoval (tags_at kind.old) (Field name.now ∷ behind.now) (tags_at kind.new)) }
     ensures err { OnErr result (kind.new ≡ kind.old) }
 {
     kind_is_canonical(kind);
@@ -128,7 +135,8 @@ fn remove_in_others(
     requires some { 0 < length behind.now }
     requires object { tags_at kind.old [] tag.Object ≡ true }
     requires unknown { knows_field name.now kind.old ≡ false }
-    ensures ok { OnOk result (IsRemoval (tags_at kind.old) (Field name.now ∷ behind.now) (tags_at kind.new)) }
+    ensures ok { OnOk result
+        (IsRemoval (tags_at kind.old) (Field name.now ∷ behind.now) (tags_at kind.new)) }
     ensures err { OnErr result (kind.new ≡ kind.old) }
 {
     let part = remove_at(alloc, other_fields(kind), behind)?;
@@ -150,7 +158,8 @@ fn remove_in_known(
     requires object { tags_at kind.old [] tag.Object ≡ true }
     ensures ok { OnOk result ((whole : KindTree) → IsTaken name.now whole kind.old part
         → IsRemoval (tags_at whole) (Field name.now ∷ behind.now) (tags_at kind.new)) }
-    ensures err { OnErr result ((whole : KindTree) → IsCanonical whole → IsTaken name.now whole kind.old part
+    ensures err { OnErr result
+        ((whole : KindTree) → IsCanonical whole → IsTaken name.now whole kind.old part
         → kind.new ≡ whole) }
 {
     equal_tags_are_one_kind();
@@ -180,7 +189,8 @@ fn remove_field(
     name: &Chars,
     behind: &[Step],
 ) -> Result<Kind, Memory>
-    ensures { IfOk result (λ kind. IsRemoval (spot_sets spot.entry) (Field name.now ∷ behind.now) (tags_at kind)) }
+    ensures { IfOk result
+        (λ kind. IsRemoval (spot_sets spot.entry) (Field name.now ∷ behind.now) (tags_at kind)) }
 {
     if !spot.has(Tag::Object) {
         return spot.kind(alloc);
@@ -193,7 +203,8 @@ fn remove_field(
 
 fn remove_last_field(alloc: Global, spot: Spot<'_>, name: &Chars) -> Result<Kind, Memory>
     requires { spot_sets spot [] tag.Object ≡ true }
-    ensures { IfOk result (λ kind. SameSets (tags_at kind) (without_part (spot_sets spot.entry) (field name.now))) }
+    ensures { IfOk result
+        (λ kind. SameSets (tags_at kind) (without_part (spot_sets spot.entry) (field name.now))) }
 {
     let fields = spot.fields();
     let part = Kind::of(alloc, Tag::Absent);
@@ -210,7 +221,8 @@ fn remove_in_field(
 ) -> Result<Kind, Memory>
     requires some { 0 < length behind.now }
     requires object { spot_sets spot [] tag.Object ≡ true }
-    ensures { IfOk result (λ kind. IsRemoval (spot_sets spot.entry) (Field name.now ∷ behind.now) (tags_at kind)) }
+    ensures { IfOk result
+        (λ kind. IsRemoval (spot_sets spot.entry) (Field name.now ∷ behind.now) (tags_at kind)) }
 {
     let fields = spot.fields();
     let part = remove_at(alloc, fields.field(name), behind)?;
@@ -225,7 +237,8 @@ fn remove_signed_place(
     at: i64,
     behind: &[Step],
 ) -> Result<Kind, Memory>
-    ensures { IfOk result (λ kind. IsRemoval (spot_sets spot.entry) (Place at ∷ behind.now) (tags_at kind)) }
+    ensures { IfOk result
+        (λ kind. IsRemoval (spot_sets spot.entry) (Place at ∷ behind.now) (tags_at kind)) }
 {
     match from_start(at) {
         Some(at) => remove_place(alloc, spot, at, behind),
@@ -249,7 +262,8 @@ fn remove_place(alloc: Global, spot: Spot<'_>, at: usize, behind: &[Step]) -> Re
 
 fn remove_last_place(alloc: Global, spot: Spot<'_>, at: usize) -> Result<Kind, Memory>
     requires { spot_sets spot [] tag.List ≡ true }
-    ensures { IfOk result (λ kind. SameSets (tags_at kind) (without_part (spot_sets spot.entry) (place at))) }
+    ensures { IfOk result
+        (λ kind. SameSets (tags_at kind) (without_part (spot_sets spot.entry) (place at))) }
 {
     let places = spot.places();
     let absent = places.place(at).has(Tag::Absent);
@@ -320,7 +334,8 @@ fn remove_somewhere(alloc: Global, spot: Spot<'_>, behind: &[Step]) -> Result<Ki
     spot.with_list(alloc, Vec::new(alloc), rest)
 }
 
-// What may stand at each place, of which all are of this kind, once one is removed or what stands in it.
+// What may stand at each place, of which all are of this kind, once one is removed or what stands
+// in it.
 #[cycle(remove)]
 fn left_somewhere(alloc: Global, places: Kind, behind: &[Step]) -> Result<Kind, Memory>
     ensures { IfOk result (λ left. IsLeftSomewhere (tags_at places) behind.now

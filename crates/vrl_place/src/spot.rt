@@ -51,7 +51,8 @@ impl<'a> Bare<'a> {
     }
 
     fn rest(self, alloc: Global) -> Result<Rest, Memory>
-        ensures { IfOk result (λ rest. SameSets (rest_at (rest_of rest)) (or_absent_if true (bare_sets self.entry))) }
+        ensures { IfOk result
+            (λ rest. SameSets (rest_at (rest_of rest)) (or_absent_if true (bare_sets self.entry))) }
     {
         match self {
             Bare::Nothing => Ok(Rest::Nothing),
@@ -167,10 +168,11 @@ impl<'a> Spot<'a> {
         Ok(or_absent_if(self.bare.kind(alloc)?, self.absent))
     }
 
-    // The rest of which this stands at each place or field, which may be absent there. `Memory`: want of
-    // memory.
+    // The rest of which this stands at each place or field, which may be absent there. `Memory`:
+    // want of memory.
     pub(crate) fn rest(self, alloc: Global) -> Result<Rest, Memory>
-        ensures { IfOk result (λ rest. SameSets (rest_at (rest_of rest)) (or_absent_if true (spot_sets self.entry))) }
+        ensures { IfOk result
+            (λ rest. SameSets (rest_at (rest_of rest)) (or_absent_if true (spot_sets self.entry))) }
     {
         self.bare.rest(alloc)
     }
@@ -202,9 +204,11 @@ impl<'a> Spot<'a> {
     }
 }
 
-// The rest of which this kind stands at each place or field, which may be absent there. `Memory`: want of memory.
+// The rest of which this kind stands at each place or field, which may be absent there. `Memory`:
+// want of memory.
 pub(crate) fn exact(alloc: Global, kind: Kind) -> Result<Rest, Memory>
-    ensures { IfOk result (λ rest. SameSets (rest_at (rest_of rest)) (or_absent_if true (tags_at kind))) }
+    ensures { IfOk result
+        (λ rest. SameSets (rest_at (rest_of rest)) (or_absent_if true (tags_at kind))) }
 {
     Ok(Rest::Exact(Box::new(alloc, kind)?))
 }

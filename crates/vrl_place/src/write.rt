@@ -1,4 +1,4 @@
-ghost use Rattle.std.specs.Prelude.{◌≡◌, IfOk, IsOk, OnErr, OnOk, [], ◌∷◌, false, pos, true};
+ghost use Rattle.std.specs.Prelude.{◌≡◌, IfOk, IsOk, OnErr, OnOk, [], ◌∷◌, false, true};
 ghost use Rattle.vrl_kind.specs.Canonical.{IsCanonical};
 ghost use Rattle.vrl_kind.specs.Fields.{knows_field, IsTaken};
 ghost use Rattle.vrl_kind.specs.KindTree.{KindTree};
@@ -8,7 +8,8 @@ ghost use Rattle.vrl_path.specs.Write.{IsSet};
 ghost use Rattle.vrl_path.specs.declared.path.Step.TheVariants.{Field, Place};
 ghost use Rattle.vrl_place.specs.Inner.{spot_sets};
 ghost use Rattle.vrl_place.specs.Sets.{is_alone};
-ghost use Rattle.vrl_place.specs.Write.{IsContainerFor, IsPut, IsPutFromEnd, IsPutSomewhere, IsWrite};
+ghost use Rattle.vrl_place.specs.Write.{IsContainerFor, IsPut, IsPutFromEnd, IsPutSomewhere};
+ghost use Rattle.vrl_place.specs.Write.{IsWrite};
 ghost use Rattle.vrl_value.specs.Look.{place};
 ghost use Rattle.vrl_value.specs.Tree.{Tree};
 ghost use Rattle.vrl_value.specs.declared.value.Tag.TheVariants as tag;
@@ -21,17 +22,20 @@ use vrl_kind::{Kind, equal_tags_are_one_kind, join, kind_is_canonical};
 use vrl_path::{Path, Step, sets_go_on};
 use vrl_value::{Chars, Memory, Tag};
 
-/// Makes the kind of a value that of the value once one of `new` is set at the path: the container of the first
-/// step alone, so that another tag of the kind stays nowhere on the way, and a place below that of the path has
-/// null where it could be absent. A negative place counts from the end of its array: where the kind is that of
-/// arrays of one length alone it is the place that it counts to, and else each place may be what some place was, or
-/// null, or that with `new` written. `Memory`: want of memory, but not at an empty path; the kind stays as it was.
+/// Makes the kind of a value that of the value once one of `new` is set at the path: the container
+/// of the first step alone, so that another tag of the kind stays nowhere on the way, and a place
+/// below that of the path has null where it could be absent. A negative place counts from the end
+/// of its array: where the kind is that of arrays of one length alone it is the place that it
+/// counts to, and else each place may be what some place was, or null, or that with `new` written.
+/// `Memory`: want of memory, but not at an empty path; the kind stays as it was.
 ///
-/// It goes down the fields of the path in place, as long as the kind is that of an object alone and knows the
-/// field by itself, and looks at none beside them. What stands beside the rest of the path it copies once.
+/// It goes down the fields of the path in place, as long as the kind is that of an object alone and
+/// knows the field by itself, and looks at none beside them. What stands beside the rest of the
+/// path it copies once.
 pub fn write_kind(alloc: Global, kind: &mut Kind, path: &Path, new: Kind) -> Result<(), Memory>
     requires { IsWritable path.now }
-    ensures tags { OnOk result (IsWrite (tags_at kind.old) path.now (tags_at new) (tags_at kind.new)) }
+    ensures tags { OnOk result
+        (IsWrite (tags_at kind.old) path.now (tags_at new) (tags_at kind.new)) }
     ensures inhabited { OnOk result ((value part set : Tree) → Inhabits value kind.old
         → Inhabits part new → IsSet value path.now part set → Inhabits set kind.new) }
     ensures container { OnOk result (IsContainerFor path.now (tags_at kind.new [])) }
@@ -46,8 +50,14 @@ pub fn write_kind(alloc: Global, kind: &mut Kind, path: &Path, new: Kind) -> Res
 
 // Writes a kind at the end of the steps, in place as far as that goes.
 #[cycle(write_in)]
-fn write_in(alloc: Global, kind: &mut Kind, steps: &[Step], new: Kind) -> Result<(), Memory>
-    ensures ok { OnOk result (IsWrite (tags_at kind.old) steps.now (tags_at new) (tags_at kind.new)) }
+pub(crate) fn write_in(
+    alloc: Global,
+    kind: &mut Kind,
+    steps: &[Step],
+    new: Kind,
+) -> Result<(), Memory>
+    ensures ok { OnOk result
+        (IsWrite (tags_at kind.old) steps.now (tags_at new) (tags_at kind.new)) }
     ensures whole { steps.now ≡ [] → IsOk result }
     ensures err { OnErr result (kind.new ≡ kind.old) }
 {
@@ -68,7 +78,8 @@ fn write_in(alloc: Global, kind: &mut Kind, steps: &[Step], new: Kind) -> Result
 
 // Makes the kind anew with one written at the end of the steps.
 fn write_anew(alloc: Global, kind: &mut Kind, steps: &[Step], new: &Kind) -> Result<(), Memory>
-    ensures ok { OnOk result (IsWrite (tags_at kind.old) steps.now (tags_at new.now) (tags_at kind.new)) }
+    ensures ok { OnOk result
+        (IsWrite (tags_at kind.old) steps.now (tags_at new.now) (tags_at kind.new)) }
     ensures err { OnErr result (kind.new ≡ kind.old) }
 {
     let written = write_at(alloc, Spot::of(kind), steps, new)?;
@@ -87,7 +98,8 @@ fn write_in_field(
 ) -> Result<(), Memory>
     requires { is_alone (tags_at kind.old []) tag.Object ≡ true }
     ensures ok { OnOk result
-        (IsWrite (tags_at kind.old) (Field name.now ∷ behind.now) (tags_at new) (tags_at kind.new)) }
+        (IsWrite (tags_at kind.old) (Field name.now ∷ behind.now) (tags_at new)
+        (tags_at kind.new)) }
     ensures err { OnErr result (kind.new ≡ kind.old) }
 {
     if behind.is_empty() {
@@ -112,7 +124,8 @@ fn write_new_field(
     requires alone { is_alone (tags_at kind.old []) tag.Object ≡ true }
     requires unknown { knows_field name.now kind.old ≡ false }
     ensures ok { OnOk result
-        (IsWrite (tags_at kind.old) (Field name.now ∷ behind.now) (tags_at new.now) (tags_at kind.new)) }
+        (IsWrite (tags_at kind.old) (Field name.now ∷ behind.now) (tags_at new.now)
+        (tags_at kind.new)) }
     ensures err { OnErr result (kind.new ≡ kind.old) }
 {
     let part = write_at(alloc, other_fields(kind), behind, new)?;
@@ -135,7 +148,8 @@ fn write_known_field(
     ensures ok { OnOk result ((whole : KindTree) → IsTaken name.now whole kind.old part
         → is_alone (tags_at whole []) tag.Object ≡ true
         → IsWrite (tags_at whole) (Field name.now ∷ behind.now) (tags_at new) (tags_at kind.new)) }
-    ensures err { OnErr result ((whole : KindTree) → IsCanonical whole → IsTaken name.now whole kind.old part
+    ensures err { OnErr result
+        ((whole : KindTree) → IsCanonical whole → IsTaken name.now whole kind.old part
         → kind.new ≡ whole) }
 {
     equal_tags_are_one_kind();
@@ -149,7 +163,8 @@ fn write_known_field(
 // The kind of what stands here once a value of `new` is set at the end of the steps.
 #[cycle(write)]
 fn write_at(alloc: Global, spot: Spot<'_>, steps: &[Step], new: &Kind) -> Result<Kind, Memory>
-    ensures { IfOk result (λ kind. IsWrite (spot_sets spot.entry) steps.now (tags_at new.now) (tags_at kind)) }
+    ensures { IfOk result
+        (λ kind. IsWrite (spot_sets spot.entry) steps.now (tags_at new.now) (tags_at kind)) }
 {
     match steps.split_first() {
         None => new.copy(alloc),
@@ -166,7 +181,8 @@ fn write_behind(
     new: &Kind,
 ) -> Result<Kind, Memory>
     ensures { IfOk result
-        (λ kind. IsWrite (spot_sets spot.entry) (step.now ∷ behind.now) (tags_at new.now) (tags_at kind)) }
+        (λ kind. IsWrite (spot_sets spot.entry) (step.now ∷ behind.now) (tags_at new.now)
+        (tags_at kind)) }
 {
     match step {
         Step::Field(name) => write_field(alloc, spot, name, behind, new),
@@ -183,7 +199,8 @@ fn write_field(
     new: &Kind,
 ) -> Result<Kind, Memory>
     ensures { IfOk result
-        (λ kind. IsWrite (spot_sets spot.entry) (Field name.now ∷ behind.now) (tags_at new.now) (tags_at kind)) }
+        (λ kind. IsWrite (spot_sets spot.entry) (Field name.now ∷ behind.now) (tags_at new.now)
+        (tags_at kind)) }
 {
     let absent = !spot.is_alone(Tag::Object);
     let fields = spot.fields();
@@ -201,7 +218,8 @@ fn write_signed_place(
     new: &Kind,
 ) -> Result<Kind, Memory>
     ensures { IfOk result
-        (λ kind. IsWrite (spot_sets spot.entry) (Place at ∷ behind.now) (tags_at new.now) (tags_at kind)) }
+        (λ kind. IsWrite (spot_sets spot.entry) (Place at ∷ behind.now) (tags_at new.now)
+        (tags_at kind)) }
 {
     match from_start(at) {
         Some(at) => write_place(alloc, spot, at, behind, new),

@@ -20,8 +20,7 @@ use Rattle.vrl_kind.specs.Kinds as kinds
 use Rattle.vrl_kind.specs.Kinds.{tags_at}
 use Rattle.vrl_kind.specs.Make.{object_kind}
 use Rattle.vrl_kind.specs.Sets.{Sets, SameSets}
-use Rattle.vrl_place.specs.Remove.{IsRemoval}
-use Rattle.vrl_place.specs.Write.{IsWrite}
+use Rattle.vrl_place.specs.Far.{IsRemovedCut, IsWrittenCut}
 
 -- ---- what a state is
 
@@ -116,18 +115,12 @@ written_from None = any_kind
 written_from (Some K) = K
 
 -- M is K with N written at the path, cut
-pub record IsWrittenKind (K : KindTree) (p : List Step) (N M : KindTree) : Type 0 where
-  pub whole : KindTree
-  pub canonical : IsCanonical whole
-  pub write : IsWrite (tags_at K) p (tags_at N) (tags_at whole)
-  pub cut : IsCut whole M
+abbrev pub IsWrittenKind : KindTree → List Step → KindTree → KindTree → Type 0
+IsWrittenKind = IsWrittenCut
 
 -- M is K without what stands at the path, cut
-pub record IsLeftKind (K : KindTree) (p : List Step) (M : KindTree) : Type 0 where
-  pub whole : KindTree
-  pub canonical : IsCanonical whole
-  pub removal : IsRemoval (tags_at K) p (tags_at whole)
-  pub cut : IsCut whole M
+abbrev pub IsLeftKind : KindTree → List Step → KindTree → Type 0
+IsLeftKind = IsRemovedCut
 
 -- the root has a kind of which this holds
 abbrev pub HasNow : Root → (KindTree → Type 0) → RootMap → Option RootMap → Type 0

@@ -4,7 +4,8 @@ ghost use Rattle.vrl_kind.specs.Canonical.{any_kind};
 ghost use Rattle.vrl_kind.specs.Cut.{flat, IsCut};
 ghost use Rattle.vrl_kind.specs.KindTree.{KindTree};
 ghost use Rattle.vrl_kind.specs.Kinds.{IsWithin};
-ghost use Rattle.vrl_state.specs.States.{json_object, IsEither, IsLeftKind, IsRootKind, IsWrittenKind};
+ghost use Rattle.vrl_state.specs.States.{json_object, IsEither, IsLeftKind, IsRootKind};
+ghost use Rattle.vrl_state.specs.States.{IsWrittenKind};
 
 use std::alloc::Global;
 use std::rc::Rc;
@@ -13,7 +14,7 @@ use vrl_kind::{
     levels, nodes,
 };
 use vrl_path::Path;
-use vrl_place::{remove_kind, write_kind};
+use vrl_place::remove_cut;
 use vrl_value::Memory;
 
 // A kind, to be shared. `Memory`: want of memory.
@@ -151,7 +152,7 @@ pub(crate) fn taken_out(alloc: Global, kind: &Rc<Kind>, path: &Path) -> Result<R
     ensures { IfOk result (λ after. IsLeftKind kind.now.value path.now after.value) }
 {
     let mut own = kind.copy(alloc)?;
-    take_out(alloc, &mut own, path)?;
+    remove_cut(alloc, &mut own, path)?;
     share(alloc, own)
 }
 
@@ -163,21 +164,7 @@ fn write_cut(alloc: Global, kind: &mut Kind, path: &Path, new: &Kind) -> Result<
     ensures err { OnErr result (kind.new ≡ kind.old) }
 {
     let copy = new.copy(alloc)?;
-    write_kind(alloc, kind, path, copy)?;
-    kind_is_canonical(kind);
-    kind.cut(alloc);
-    Ok(())
-}
-
-// Takes out what stands at a path of a kind, which is then cut. `Memory`: want of memory; the kind
-// stays as it was.
-fn take_out(alloc: Global, kind: &mut Kind, path: &Path) -> Result<(), Memory>
-    ensures ok { OnOk result (IsLeftKind kind.old path.now kind.new) }
-    ensures err { OnErr result (kind.new ≡ kind.old) }
-{
-    remove_kind(alloc, kind, path)?;
-    kind_is_canonical(kind);
-    kind.cut(alloc);
+    vrl_place::write_cut(alloc, kind, path, copy)?;
     Ok(())
 }
 
@@ -210,7 +197,7 @@ pub(crate) fn take_out_shared(alloc: Global, kind: &mut Rc<Kind>, path: &Path) -
     ensures err { OnErr result (kind.new.value ≡ kind.old.value) }
 {
     match Rc::get_mut(kind) {
-        Some(own) => take_out(alloc, own, path),
+        Some(own) => remove_cut(alloc, own, path),
         None => {
             let after = taken_out(alloc, kind, path)?;
             *kind = after;

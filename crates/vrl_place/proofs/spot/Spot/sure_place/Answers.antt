@@ -1,6 +1,6 @@
 use mir.Syntax.{w64}
 use mir.Val.{SFits}
-use Rattle.std.proofs.Common.{◌≡◌, ℕ, rules, sym, ap, ◌∙◌}
+use Rattle.std.proofs.Common.{ℕ, rules, sym, ap, ◌∙◌}
 use Rattle.std.proofs.lemmas.Bool.{true≢false}
 use Rattle.std.proofs.lemmas.Int.{to_z-of_z}
 use Rattle.vrl_path.specs.Read.{place_of}
