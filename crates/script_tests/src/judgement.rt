@@ -158,8 +158,8 @@ fn empties_of(alloc: Global, judged: &Judged) -> Result<String, Memory> {
 // What is known where each closure was judged last: `dead,` for one where nothing is.
 fn loops_of(alloc: Global, judged: &Judged) -> Result<String, Memory> {
     let mut told = String::new(alloc);
-    for known in judged.loops.as_slice() {
-        let word = match known {
+    for place in 0..judged.loops.len() {
+        let word = match judged.loops.known(place)? {
             Known::Dead => "dead,",
             Known::Alive(_roots) => "alive,",
         };

@@ -2,7 +2,7 @@
 use Rattle.std.proofs.Common.{◌≡◌, List, [], ◌∷◌, ◌++◌, map, All, Option, Some, None, unwrap_or, refl, sym, ap, ap₂, ◌∙◌, subst, append_assoc, append-nil}
 use Rattle.std.proofs.lemmas.List.Elements.{All-append, All-cons, All-nil}
 use Rattle.vrl_kind.specs.KindTree.{KindTree}
-use Rattle.vrl_state.specs.Known.{known_as, HaveRootKinds}
+use Rattle.vrl_state.specs.Known.{known_as, knowns_of, HaveRootKinds}
 use Rattle.vrl_state.specs.States.{IsEither, IsJoined, IsRootKind, RootMap, State}
 use Rattle.vrl_state.specs.declared.known.Known.{Known}
 use Rattle.vrl_state.specs.declared.known.Known.TheVariants.{Dead}
@@ -40,26 +40,11 @@ state_outside s known is none = λ i. record { known = is i; scopes = none i }
 
 -- ---- closures as they are answered
 
--- those that were listed so far, with those that are left, are all
-pub record AreListed (known : List Known) (left all : List (Option State)) : Type 0 where
-  pub is : known ++ map known_as (branches_known left) ≡ map known_as (branches_known all)
-  pub roots : All HaveRootKinds known
-
-pub none_listed : (left all : List (Option State)) (known : List Known) → left ≡ all → known ≡ [] → AreListed known left all
-none_listed left all known same none = record { is = ap (λ ks. ks ++ map known_as (branches_known left)) none ∙ ap (λ bs. map known_as (branches_known bs)) same; roots = subst (All HaveRootKinds) (sym none) (All-nil HaveRootKinds) }
-
-pub listed_next : (known more : List Known) (k : Known) (b : Option State) (left rest all : List (Option State)) → left ≡ b ∷ rest → more ≡ known ++ (k ∷ []) → k ≡ known_as (known_on b) → HaveRootKinds k → AreListed known left all → AreListed more rest all
-listed_next known more k b left rest all is pushed told root so_far = record {
-  is = ap (λ ks. ks ++ map known_as (branches_known rest)) pushed
-      ∙ append_assoc known (k ∷ []) (map known_as (branches_known rest))
-      ∙ ap (λ x. known ++ (x ∷ map known_as (branches_known rest))) told
-      ∙ ap (λ bs. known ++ map known_as (branches_known bs)) (sym is)
-      ∙ so_far.is;
-  roots = subst (All HaveRootKinds) (sym pushed) (All-append HaveRootKinds known (k ∷ []) so_far.roots (All-cons HaveRootKinds k [] root (All-nil HaveRootKinds)));
-}
-
-pub all_listed : (known : List Known) (left all : List (Option State)) → left ≡ [] → AreListed known left all → known ≡ map known_as (branches_known all)
-all_listed known left all none so_far = sym (append-nil known) ∙ ap (λ bs. known ++ map known_as (branches_known bs)) (sym none) ∙ so_far.is
+-- what is known at branches is told of what is known there
+known_at_all : (branches : List (Option State)) → knowns_of branches ≡ map known_as (branches_known branches)
+known_at_all [] = refl
+known_at_all (None ∷ branches) = ap (λ ks. Dead ∷ ks) (known_at_all branches)
+known_at_all (Some b ∷ branches) = ap (λ ks. known_as b.known ∷ ks) (known_at_all branches)
 
 -- they are those that are told
 told_as : (loops : List (Option Loop)) → map known_as (loops_known loops) ≡ loops_told loops
@@ -68,9 +53,9 @@ told_as (None ∷ loops) = ap (λ ls. Dead ∷ ls) (told_as loops)
 told_as (Some loop ∷ loops) = ap (λ ls. known_as loop.known ∷ ls) (told_as loops)
 
 pub script_judged : (start : KindTree) (es : Exprs) (before after : Checker) (finding : Finding) (judged : Judged) → IsScriptStart start before.state → before.diagnostics.items ≡ [] → before.empties.items ≡ [] → before.loops.items ≡ [] → IsScriptAs es before after finding
-    → AreAnswered after.state finding judged → judged.empties ≡ after.empties.items → judged.loops ≡ map known_as (branches_known after.loops.items) → All HaveRootKinds judged.loops → AreOrdered after.diagnostics.items judged.diagnostics
+    → AreAnswered after.state finding judged → judged.empties ≡ after.empties.items → judged.loops ≡ knowns_of after.loops.items → AreOrdered after.diagnostics.items judged.diagnostics
     → (j : Judgement) × JudgesScript (language_rules before.patterns.now) start es j × IsJudged j judged
-script_judged start es before after finding judged starts no_codes no_tags no_loops is answered empties loops roots ordered =
+script_judged start es before after finding judged starts no_codes no_tags no_loops is answered empties loops ordered =
     let j = settle is.1 in
     let has = is.4 in
     let are : AreEnds [] finding.ends = subst (λ scopes. AreEnds scopes finding.ends) starts.scopes has.ends.are in
@@ -87,8 +72,7 @@ script_judged start es before after finding judged starts no_codes no_tags no_lo
         returned = ap return_kind answered.ret ∙ has.ends.returned;
         returned_root = subst IsRootKind has.ends.returned are.ret.kind;
         empties = empties ∙ has.gathered.empties ∙ ap (λ ts. ts ++ j.empties) no_tags;
-        loops = loops ∙ ap (map known_as) (has.gathered.loops ∙ ap (λ bs. branches_known bs ++ loops_known j.loops) no_loops) ∙ told_as j.loops;
-        loop_roots = roots;
+        loops = loops ∙ known_at_all after.loops.items ∙ ap (map known_as) (has.gathered.loops ∙ ap (λ bs. branches_known bs ++ loops_known j.loops) no_loops) ∙ told_as j.loops;
         diagnostics = subst (λ codes. AreOrdered codes judged.diagnostics) (has.gathered.diagnostics ∙ ap (λ ds. ds ++ j.codes) no_codes) ordered;
       },
     )

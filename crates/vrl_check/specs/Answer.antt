@@ -1,5 +1,5 @@
 -- What `check` and `ending` answer.
-use Rattle.std.specs.Prelude.{◌≡◌, [], All, Option}
+use Rattle.std.specs.Prelude.{◌≡◌, [], Option}
 use Rattle.vrl_state.specs.Known.{known_as, HaveRootKinds}
 use Rattle.vrl_state.specs.States.{IsEither, IsJoined, IsRootKind, RootMap, State}
 use Rattle.vrl_judge.specs.Rules.{Judgement}
@@ -24,7 +24,6 @@ pub record IsJudged (j : Judgement) (judged : Judged) : Type 0 where
   pub returned_root : IsRootKind j.returned
   pub empties : judged.empties ≡ j.empties
   pub loops : judged.loops ≡ loops_told j.loops
-  pub loop_roots : All HaveRootKinds judged.loops
   pub diagnostics : AreOrdered j.codes judged.diagnostics
 
 -- the kind of a script's value, from its end or from a return, and what is known there

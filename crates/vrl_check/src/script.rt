@@ -2,7 +2,6 @@ ghost use Rattle.std.specs.Prelude.{false, length, map, true, unwrap_or, ◌≡�
 ghost use Rattle.vrl_check.specs.Answer.{outside, IsEnding, IsJudged};
 ghost use Rattle.vrl_check.specs.Judgement.{IsScriptStart, JudgesScript};
 ghost use Rattle.vrl_check.specs.Walking.{ExprCanBeJudged, IsItemAs, IsScriptAs, ItemsCanBeJudged};
-ghost use Rattle.vrl_judge.specs.Judging.{branches_known, known_on};
 ghost use Rattle.vrl_judge.specs.Rules.{Judgement};
 ghost use Rattle.vrl_kind.specs.Canonical.{allows_absent};
 ghost use Rattle.vrl_state.specs.Known.{known_as, HaveRootKinds};
@@ -20,7 +19,7 @@ use vrl_judge::{Checker, Finding, SharedKind, either, ordered, scalar};
 use vrl_kind::{Kind, equal_tags_are_one_kind};
 use vrl_path::Path;
 use vrl_pattern::Patterns;
-use vrl_state::{Branch, Known, Knowns, State, json_object};
+use vrl_state::{Branch, Knowns, State, json_object};
 use vrl_syntax::{Empties, Expr, Exprs, Root, Script};
 use vrl_value::{Memory, Tag};
 
@@ -53,7 +52,6 @@ pub fn check(
         inside: false,
     };
     let finding = script_items(&mut checker, &script.items)?;
-    let loops = listed(alloc, &checker.loops)?;
     let diagnostics = ordered(checker.diagnostics)?;
     let ok = branch_of(alloc, checker.state)?;
     let (kind, ends) = finding.into_parts();
@@ -66,7 +64,7 @@ pub fn check(
         fail,
         ret,
         empties: Empties::new(checker.empties),
-        loops,
+        loops: Knowns::new(checker.loops),
         diagnostics: Diagnostics::new(diagnostics),
     })
 }
@@ -109,30 +107,6 @@ fn script_item(checker: &mut Checker<'_>, item: &Expr) -> Result<Finding, Memory
     let part = expr(checker, item)?;
     let fallible = part.is_fallible();
     checker.reported(part, fallible, code::UNHANDLED_ERROR, item.span)
-}
-
-// What is known before the runs of each closure, as lists. `Memory`: want of memory.
-fn listed(alloc: Global, loops: &[Option<Branch>]) -> Result<Knowns, Memory>
-    ensures loops { IfOk result (λ knowns. knowns ≡ map known_as (branches_known loops.now)) }
-    ensures roots { IfOk result (All HaveRootKinds) }
-{
-    let mut knowns = Vec::with_capacity(alloc, loops.len())?;
-    for branch in loops {
-        let known = known_at(branch)?;
-        knowns.push(known)?;
-    }
-    Ok(Knowns::new(knowns))
-}
-
-// What is known at a branch, as a list; nothing where there is none. `Memory`: want of memory.
-fn known_at(branch: &Option<Branch>) -> Result<Known, Memory>
-    ensures known { IfOk result (λ known. known ≡ known_as (known_on branch.now)) }
-    ensures roots { IfOk result HaveRootKinds }
-{
-    match branch {
-        Some(branch) => branch.known(),
-        None => Ok(Known::Dead),
-    }
 }
 
 // A dead state, outside all blocks. `Memory`: want of memory.

@@ -5,7 +5,7 @@ use Rattle.vrl_kind.specs.Cut.{IsCut}
 use Rattle.vrl_kind.specs.KindTree.{KindTree}
 use Rattle.vrl_syntax.specs.declared.root.Root.{Root}
 use Rattle.vrl_syntax.specs.declared.root.Root.TheVariants.{Event, Name}
-use Rattle.vrl_state.specs.States.{kind_of, same_root, IsRootKind, RootMap, Variables}
+use Rattle.vrl_state.specs.States.{kind_of, same_root, IsRootKind, RootMap, State, Variables}
 use Rattle.vrl_state.specs.Stores.{value_of, FitsKind, Store}
 use Rattle.vrl_state.specs.declared.known.Known.{Known}
 use Rattle.vrl_state.specs.declared.known.Known.TheVariants.{Dead, Alive}
@@ -25,6 +25,14 @@ root_kinds roots = record { root = Event; kind = roots.event } ∷ variable_kind
 abbrev pub known_as : Option RootMap → Known
 known_as None = Dead
 known_as (Some roots) = Alive (root_kinds roots)
+
+-- what is known where a branch ends; nothing where there is none
+abbrev pub known_of : Option State → Known
+known_of None = Dead
+known_of (Some s) = known_as s.known
+
+abbrev pub knowns_of : List (Option State) → List Known
+knowns_of states = map known_of states
 
 -- each root that is listed has a root's kind: never absent, as the list says itself, and within the
 -- limits

@@ -9,13 +9,15 @@
 //! `variables.rt` (of the variables) and `scopes.rt` (the scopes that are open), as versions that
 //! share what they have in common: `tree.rt` has the ordered tree that a version is, and `walks.rt`
 //! what goes over its entries. `kinds.rt` makes kinds that are cut. `known.rt` tells what is known
-//! as a list, and `laws.rt` that stores go on fitting what is known.
+//! as a list, `knowns.rt` what is known at several places, and `laws.rt` that stores go on fitting
+//! what is known.
 #![tactic(auto)]
 
 mod blocks;
 mod branch;
 mod kinds;
 mod known;
+mod knowns;
 mod laws;
 mod roots;
 mod scopes;
@@ -26,7 +28,8 @@ mod walks;
 
 pub use branch::{Branch, Mark};
 pub use kinds::{cut, json_object};
-pub use known::{Known, Knowns, RootKind, RootKinds};
+pub use known::{Known, RootKind, RootKinds};
+pub use knowns::Knowns;
 pub use laws::{
     blocks_give_nothing_back, blocks_keep_fits, blocks_keep_held_names, bodies_keep_fits,
     cuts_are_root_kinds, cuts_hold_the_allowed, either_holds_both, flattening_keeps_fits,

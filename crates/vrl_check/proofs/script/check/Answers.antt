@@ -18,11 +18,10 @@ returns c =
     let before : Checker = record { alloc = c.args.alloc; patterns = c.args.patterns; state = c.in_ok-state.state; diagnostics = c.new.result; empties = c.new-2.result; loops = c.new-3.result; inside = false } in
     let finding = c.in_ok-finding.finding in
     let after = c.script_items.new.checker in
-    let judged : Judged = record { kind = c.in_ok-kind.kind; ok = c.in_ok-ok.ok; fail = c.in_ok-fail.fail; ret = c.into_parts-fail.result.1; empties = c.new-4.result; loops = c.in_ok-loops.loops; diagnostics = c.new-5.result } in
+    let judged : Judged = record { kind = c.in_ok-kind.kind; ok = c.in_ok-ok.ok; fail = c.in_ok-fail.fail; ret = c.into_parts-fail.result.1; empties = c.new-4.result; loops = c.new-5.result; diagnostics = c.new-6.result } in
     let parts = c.into_parts-kind.ensures in
     let fail = c.into_parts-fail.ensures.fail ∙ ap (λ es. es.fail) parts.ends in
     let ret = c.into_parts-fail.ensures.ret ∙ ap (λ es. es.ret) parts.ends in
     let answered : AreAnswered after.state finding judged = record { kind = c.in_ok-kind.ensures ∙ parts.kind; ok = c.in_ok-ok.ensures; fail = c.in_ok-fail.ensures ∙ ap (λ way. unwrap_or way (outside None)) fail; ret = ret } in
-    let listed = c.in_ok-loops.ensures.loops ∙ ap (λ bs. map known_as (branches_known bs)) c.deref.ensures.value in
     script_judged c.args.start.now (exprs_of c.args.script.now.items) before after finding judged c.in_ok-state.ensures c.new.ensures.items c.new-2.ensures.items c.new-3.ensures.items c.in_ok-finding.ensures
-    answered c.new-4.ensures listed c.in_ok-loops.ensures.roots (subst (AreOrdered after.diagnostics.items) (sym c.new-5.ensures) c.in_ok-diagnostics.ensures)
+    answered c.new-4.ensures c.new-5.ensures (subst (AreOrdered after.diagnostics.items) (sym c.new-6.ensures) c.in_ok-diagnostics.ensures)
